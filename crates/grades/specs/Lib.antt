@@ -1,0 +1,4 @@
+pub mod Kinds
+pub mod Plain
+pub mod Releases
+pub mod Views

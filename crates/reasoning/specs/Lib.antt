@@ -1,0 +1,3 @@
+pub mod Models
+pub mod Derivations
+pub mod Truth

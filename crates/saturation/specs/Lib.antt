@@ -1,0 +1,5 @@
+pub mod Boards
+pub mod Effects
+pub mod Histories
+pub mod Runs
+pub mod AnyOrder

@@ -1,0 +1,4 @@
+pub mod Vocabularies
+pub mod Contents
+pub mod Rule
+pub mod Views
