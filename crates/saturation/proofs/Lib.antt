@@ -5,3 +5,4 @@ pub mod Places
 pub mod Kept
 pub mod OneAnswer
 pub mod Finish
+pub mod Truths

@@ -3,3 +3,4 @@ pub mod Effects
 pub mod Histories
 pub mod Runs
 pub mod AnyOrder
+pub mod Answers

@@ -1,5 +1,6 @@
 //! Saturation by shared work: what a board says, what each call does to it, and what holds after any list of calls. A board is the
 //! shared state of one saturation. The functions here do nothing; each carries a theorem in its contract.
+ghost use Rattle.saturation.specs.Answers.{QuietAnswersTrue};
 ghost use Rattle.saturation.specs.AnyOrder.{AnyOrder, FreshRunFinishes, RunsLead};
 
 /// How a concept stands on a board.
@@ -28,6 +29,13 @@ pub enum Outcome {
 /// finite model says, its steps are bounded by the derivable pairs of job and point, and any two quiet boards found the same grades.
 pub fn any_order_gives_one_answer() -> u8
     ensures { λ _. ⌜ AnyOrder ⌝ }
+{
+    0
+}
+
+/// Whatever was called, in whatever order: under, mates and parents on a board on which no job waits are those of all finite models.
+pub fn quiet_answers_are_true() -> u8
+    ensures { λ _. ⌜ QuietAnswersTrue ⌝ }
 {
     0
 }
