@@ -4,7 +4,6 @@ use mathlib.Core.Logic.{_⊎_, inl, inr}
 use mathlib.Core.Bool.{Bool, true, false, _&&_}
 use mathlib.Core.List.{List, List·Memᴰ, Memᴰ·cast}
 use Prim.Native.Nat.{ℕ, _<_}
-use native.Mathlib.Nat.{le-of-eq}
 use native.Mathlib.Omega.{arith}
 use lib.ListN.{length}
 use Rattle.std.proofs.shelf.Tests.{cases-eq, both-ways, and-parts, and-from}
@@ -18,7 +17,7 @@ use Rattle.reasoning.proofs.Jobs.{inside, inside-within, within-inside, at-conc
 use Rattle.reasoning.proofs.Rules.{conclusion-within, derivable-in}
 use Rattle.reasoning.proofs.Sound.{sound}
 use Rattle.reasoning.proofs.Complete.{complete}
-use Rattle.saturation.specs.declared.State.the-variants.{Idle}
+use Rattle.saturation.specs.declared.State.the-variants.{Idle, Queued, Held}
 use Rattle.saturation.specs.Boards.{Board, Moment, Quiet}
 use Rattle.saturation.specs.Histories.{Event, History, unrechecked}
 use Rattle.saturation.specs.AnyOrder.{Due, Promise, AnyOrder}
@@ -52,14 +51,14 @@ module _ (k : Kind) (lawful : Lawful k) (v : Vocabulary) (wf : WellFormed v) whe
   promise : (es : List Event) (m : Moment) → History v k es m → Promise v k es m
   promise es m h = record {
     leases = o .placed .leases;
-    nothing-lost = o .placed .nothing-lost;
+    nothing-lost = λ j c at w. in-sight c (at-concept v wf at) (o .placed .nothing-lost j c at w);
     queued-in-pile = o .placed .queued-in-pile;
     only-queued = o .placed .only-queued;
     true-in-models = λ q a d p i l t. (
       λ x. sound v (λ code. k .holds code p) a d (o .good .sound (under a d) p (i .0, l) t x),
       λ f. and-parts (inside v (under a d)) (k .holds (b .found (under a d)) p) (complete v (λ code. k .holds code p) wf (table p) (closed q p t) a d i l f) .1,
     );
-    few-steps = (us, y .distinct, (λ u n. due v wf k lawful b u (o .good) (y .each u n)), le-of-eq (y .count));
+    few-steps = (us, y .distinct, (λ u n. due v wf k lawful b u (o .good) (y .each u n)), y .count);
     exact-steps = λ one q. (us, y .distinct, (λ u n. due v wf k lawful b u (o .good) (y .each u n)), everything one q, y .count);
     at-rest = quiet-at-rest o;
     sane = o .good .sane;
@@ -76,6 +75,11 @@ module _ (k : Kind) (lawful : Lawful k) (v : Vocabulary) (wf : WellFormed v) whe
 
       y : Tally v k b us
       y = o .tally .1
+
+      in-sight : (c : ℕ) → c < length (v .concepts) → (b .state c ≡ Queued) ⊎ (b .state c ≡ Held) ⊎ (unrechecked c es ≡ true) → ((b .state c ≡ Queued) × (m .pile c ≡ true)) ⊎ (b .state c ≡ Held) ⊎ (unrechecked c es ≡ true)
+      in-sight c l (inl q) = inl (q, o .placed .queued-in-pile c l q)
+      in-sight c l (inr (inl h)) = inr (inl h)
+      in-sight c l (inr (inr u)) = inr (inr u)
 
       table : ℕ → Fact → Bool
       table p f = inside v f && k .holds (b .found f) p

@@ -35,17 +35,17 @@ pub record Due (v : Vocabulary) (k : Kind) (u : Job × ℕ) : Type 0 where
 pub record Promise (v : Vocabulary) (k : Kind) (es : List Event) (m : Moment) : Type 0 where
   -- leases granted are the leases lowered and the concepts now held
   pub leases : granted es ≡ given-back es + held-count (length (v .concepts)) (m .board .state)
-  -- a waiting job's concept is queued, held, or lowered without its recheck
-  pub nothing-lost : (j : Job) (c : ℕ) → JobAt v j c → Waits (m .board) j → (m .board .state c ≡ Queued) ⊎ (m .board .state c ≡ Held) ⊎ (unrechecked c es ≡ true)
-  -- the queued concepts are the numbers in the pile
+  -- a waiting job's concept is queued and in the pile, held, or lowered without its recheck
+  pub nothing-lost : (j : Job) (c : ℕ) → JobAt v j c → Waits (m .board) j → ((m .board .state c ≡ Queued) × (m .pile c ≡ true)) ⊎ (m .board .state c ≡ Held) ⊎ (unrechecked c es ≡ true)
+  -- the numbers in the pile are the queued concepts
   pub queued-in-pile : (c : ℕ) → c < length (v .concepts) → m .board .state c ≡ Queued → m .pile c ≡ true
   pub only-queued : (c : ℕ) → m .pile c ≡ true → (c < length (v .concepts)) × (m .board .state c ≡ Queued)
   -- when no job waits, a grade holds a point just where every finite model there agrees
   pub true-in-models : Quiet v (m .board) → (a d p : ℕ) → Named v a → d < length (v .concepts) → p < k .points →
       (k .holds (m .board .found (under a d)) p ≡ true → Entails v (λ code. k .holds code p) a d) × (Entails v (λ code. k .holds code p) a d → k .holds (m .board .found (under a d)) p ≡ true)
-  -- there are as many distinct derivable pairs of job and point as steps, or more
-  pub few-steps : (us : List (Job × ℕ)) × Distinct us × ((u : Job × ℕ) → List·Memᴰ u us → Due v k u) × (m .board .steps ≤ length us)
-  -- with one point, when no job waits, the steps are just the derivable pairs
+  -- the steps are as many as some distinct derivable pairs of job and point
+  pub few-steps : (us : List (Job × ℕ)) × Distinct us × ((u : Job × ℕ) → List·Memᴰ u us → Due v k u) × (m .board .steps ≡ length us)
+  -- with one point, when no job waits, these are all derivable pairs
   pub exact-steps : k .points ≡ 1 → Quiet v (m .board) →
       (us : List (Job × ℕ)) × Distinct us × ((u : Job × ℕ) → List·Memᴰ u us → Due v k u) × ((u : Job × ℕ) → Due v k u → List·Memᴰ u us) × (m .board .steps ≡ length us)
   -- when every concept is idle and none is lowered without its recheck, no job waits
