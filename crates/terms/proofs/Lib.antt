@@ -1,2 +1,9 @@
+pub mod Allowing
 pub mod Bits
+pub mod Climbing
+pub mod Filling
 pub mod Formed
+pub mod Grown
+pub mod Preorder
+pub mod Stated
+pub mod Namings

@@ -1,8 +1,9 @@
 -- What a vocabulary is: concepts, inclusions between them, and roles with an order, some of them transitive.
 use mathlib.Core.Path.{_≡_}
-use mathlib.Core.Bool.{Bool, true}
+use mathlib.Core.Bool.{Bool, true, false, _&&_}
 use mathlib.Core.List.{List, List·Memᴰ}
 use Prim.Native.Nat.{ℕ, _<_, _≤_}
+use lib.Dec.{ltb}
 use lib.ListN.{length, getD}
 use Rattle.terms.specs.declared.records.Concept.{Concept}
 use Rattle.terms.specs.declared.records.Concept.the-variants.{Atomic, Top, Conjunction, Restriction}
@@ -23,6 +24,17 @@ Is v c k = (c < length (v .concepts)) × (getD (v .concepts) c Atomic ≡ k)
 -- the concept counts in start facts, listings and questions
 abbrev pub Named : Vocabulary → ℕ → Type 0
 Named v c = Is v c Atomic
+
+-- the concept is an atomic one
+abbrev pub isAtomic : Concept → Bool
+isAtomic Atomic = true
+isAtomic Top = false
+isAtomic (Conjunction d e) = false
+isAtomic (Restriction r d) = false
+
+-- the test of Named
+abbrev pub isNamed : Vocabulary → ℕ → Bool
+isNamed v c = ltb c (length (v .concepts)) && isAtomic (getD (v .concepts) c Top)
 
 -- what all vocabularies keep: operands are earlier, inclusions name concepts, role numbers name roles, the order is reflexive and
 -- transitive, and there are at most 1,024 concepts and 32 roles

@@ -1,6 +1,7 @@
 //! Looking a vocabulary up.
 ghost use mathlib.Core.Path.{_≡_};
 ghost use Rattle.terms.specs.Views.{termsOf};
+ghost use Rattle.terms.specs.Vocabularies.{isNamed};
 use super::Terms;
 use crate::records::Concept;
 use crate::records::Inclusion;
@@ -48,6 +49,16 @@ impl<'a> Terms<'a> {
             (self.transitive >> r) % 2 == 1
         } else {
             false
+        }
+    }
+
+    /// Whether the number is that of a named concept: one that counts in start facts, listings and questions.
+    pub fn is_named(&self, c: u16) -> bool
+        ensures { λ b. ⌜ b ≡ isNamed (termsOf (now (self .entry))) c ⌝ }
+    {
+        match self.concepts().get(c as usize) {
+            Some(Concept::Atomic) => true,
+            _ => false,
         }
     }
 }

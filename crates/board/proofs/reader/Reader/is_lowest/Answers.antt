@@ -1,0 +1,18 @@
+use mathlib.Core.Path.{_≡_, sym, ap, _∙_}
+use mathlib.Core.Bool.{Bool, true, false, not}
+use Prim.Native.Nat.{ℕ}
+use Rattle.terms.specs.Views.{termsOf}
+use Rattle.board.specs.Views.{readOf}
+use Rattle.board.specs.Asking.{mate-test}
+use Rattle.board.proofs.Picking.{every-more, every-fails}
+use Rattle.board.proofs.reader.Reader.is_lowest.Needs as need
+
+pub returns-then-is-mate : need.returns-then-is-mate
+returns-then-is-mate g c =
+    let f : ℕ → Bool = λ x. not (mate-test (termsOf (c .args .terms .now)) (g .K·GradeKind .kind) (readOf (c .args .self .now)) (c .args .at .point) (c .args .at .concept) x) in
+    sym (every-fails f (c .loop-c .c) (c .args .at .concept) (c .loop-c-test .taken) (ap not (sym (c .if-is-mate .ensures tt))))
+
+pub loop-c-again : need.loop-c-again
+loop-c-again g c =
+    let f : ℕ → Bool = λ x. not (mate-test (termsOf (c .args .terms .now)) (g .K·GradeKind .kind) (readOf (c .args .self .now)) (c .args .at .point) (c .args .at .concept) x) in
+    every-more f (c .loop-c .c) (c .loop-c .inv) (ap not (sym (c .if-is-mate .ensures tt)))

@@ -1,0 +1,15 @@
+pub mod Layout
+pub mod Views
+pub mod Frames
+pub mod Moves
+pub mod Raises
+pub mod OwnDraws
+pub mod JoinDraws
+pub mod Searches
+pub mod Deeds
+pub mod Making
+pub mod Refusals
+pub mod Calls
+pub mod Running
+pub mod Asking
+pub mod Questions

@@ -1,0 +1,4 @@
+pub mod Putting
+pub mod Rowing
+pub mod Ordering
+pub mod Asking

@@ -1,0 +1,4 @@
+pub mod Pages
+pub mod Rows
+pub mod Listings
+pub mod Troubles
