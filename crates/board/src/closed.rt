@@ -9,6 +9,7 @@ mod questions;
 mod reading;
 
 /// A board to ask. It lies over the same words as the open board that it was, and says the same.
+#[derive(Drop)]
 pub struct ClosedBoard<'a, K: GradeKind> {
     pub(crate) words: &'a mut [u16],
     pub(crate) concepts: usize,

@@ -1,4 +1,5 @@
 //! From the text of a sheet to the listing of its classification.
 pub mod page;
-pub mod rows;
+mod rows;
+pub mod text;
 pub mod trouble;

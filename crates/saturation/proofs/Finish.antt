@@ -18,7 +18,7 @@ use Rattle.saturation.specs.declared.Outcome.{Outcome}
 use Rattle.saturation.specs.declared.Outcome.the-variants.{Finished}
 use Rattle.saturation.specs.Boards.{Board, Moment, Quiet, Waits}
 use Rattle.saturation.specs.Effects.{Made, Worked}
-use Rattle.saturation.specs.Histories.{Event, took, worked, lowered, rechecked, other, Leads, nothing, and-then, granted, given-back, unrechecked, held-one, held-count}
+use Rattle.saturation.specs.Histories.{Event, took, worked, lowered, rechecked, other, Leads, nothing, and-then, History, granted, given-back, unrechecked, held-one, held-count}
 use Rattle.saturation.specs.Runs.{Exhausts, NothingToTake, Runs}
 use Rattle.saturation.specs.AnyOrder.{possiblePairs, FreshRunFinishes, RunsLead}
 use Rattle.saturation.proofs.Numbers.{Possible, few-pairs, pairs-small}
@@ -187,3 +187,17 @@ module _ (k : Kind) (lawful : Lawful k) (v : Vocabulary) (wf : WellFormed v) whe
 pub fresh-run-finishes : FreshRunFinishes
 fresh-run-finishes k lawful v wf a b made budget steps o es l run =
     runs-out k lawful v wf run (record { kept = kept-since v wf k lawful made nothing; balanced = refl; checked = λ x. refl }) (let z = made .no-steps in omega arith)
+
+-- a run that ends as finished leaves no job waiting
+finished-quiet : {v : Vocabulary} {k : Kind} {n s : ℕ} {o : Outcome} {es : List Event} {a b : Moment} → Runs v k n o s es a b → o ≡ Finished → Quiet v (b .board)
+finished-quiet (Runs.finished q) e = q
+finished-quiet (Runs.spent q) e = let z : _≡_ {A = ℕ} 0 1 = cc in absurd (omega arith)
+finished-quiet (Runs.left q l t u) e = let z : _≡_ {A = ℕ} 0 1 = cc in absurd (omega arith)
+finished-quiet (Runs.turn q l t x w r y) e = finished-quiet y e
+
+-- so does a run of a fresh board with a budget for all possible pairs, which is a history
+pub fresh-run : (k : Kind) → Lawful k → (v : Vocabulary) → WellFormed v → (a b : Moment) → Made v k a →
+    (budget steps : ℕ) (o : Outcome) (es : List Event) → possiblePairs v k ≤ budget → Runs v k budget o steps es a b → (o ≡ Finished) × Quiet v (b .board) × History v k es b
+fresh-run k lawful v wf a b made budget steps o es l run =
+    let e = fresh-run-finishes k lawful v wf a b made budget steps o es l run in
+    (e, finished-quiet run e, record { begin = a; made = made; led = runs-lead v k budget steps o es a b run })

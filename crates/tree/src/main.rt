@@ -1,9 +1,12 @@
-//! Reads a term sheet from standard input. A text above 4,000 bytes is rejected; what a shorter one says is not printed yet.
+//! Reads a term sheet from standard input and prints the listing of its classification, or the line that says why there is none.
+use listing::text::PAGE;
+use listing::text::list;
 use std::io;
 use std::io::Read;
+use std::io::Write;
 
-/// The longest text that is read.
-const LONGEST: usize = 4000;
+/// One byte more than the longest text that is read, so that a longer one is seen to be too long.
+const BUFFER: usize = 4001;
 
 /// Reads until the input ends or the buffer is full, and says how many bytes came.
 fn fill(rt: &LibcRuntime, buffer: &mut [u8]) -> io::Result<usize> {
@@ -23,10 +26,11 @@ fn fill(rt: &LibcRuntime, buffer: &mut [u8]) -> io::Result<usize> {
 }
 
 fn main(rt: LibcRuntime) -> io::Result<()> {
-    let mut buffer = [0; LONGEST + 1];
-    let length = fill(&rt, &mut buffer)?;
-    if length > LONGEST {
-        println!(rt, "!{:>6}{:>6}{:>6}", 6, 201, 1)?;
+    let mut buffer = [0; BUFFER];
+    let length = fill(&rt, &mut buffer)?.min(BUFFER);
+    let mut page = [0; PAGE];
+    match list(&buffer[0..length], &mut page) {
+        Ok(size) => rt.stdout().write_all(&page[0..size]),
+        Err(trouble) => rt.stdout().write_all(&trouble.line()),
     }
-    Ok(())
 }
