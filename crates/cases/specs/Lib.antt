@@ -1,0 +1,4 @@
+pub mod Rounds
+pub mod Sheets
+pub mod Expectations
+pub mod Cases
