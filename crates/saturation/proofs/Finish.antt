@@ -27,7 +27,7 @@ use Rattle.saturation.proofs.Kept.{Kept, kept-step, kept-since}
 
 -- ---- a run is a chain of effects
 
-join-leads : {v : Vocabulary} {k : Kind} {es fs : List Event} {a b c : Moment} → Leads v k es a b → Leads v k fs b c → Leads v k (fs ++ es) a c
+pub join-leads : {v : Vocabulary} {k : Kind} {es fs : List Event} {a b c : Moment} → Leads v k es a b → Leads v k fs b c → Leads v k (fs ++ es) a c
 join-leads l nothing = l
 join-leads l (and-then m e) = and-then (join-leads l m) e
 
