@@ -1,4 +1,6 @@
 //! The board: the shared state of one saturation, and every call on it.
+#![tactic(auto)]
+
 pub mod board;
 pub mod checking;
 pub mod closed;

@@ -1,5 +1,7 @@
 //! Every rejection of putting, checking, making and running at its edge: the last value that is accepted, the first that is rejected, and
 //! the first of two faults.
+#![tactic(auto)]
+
 #[cfg(test)]
 mod making;
 #[cfg(test)]

@@ -1,6 +1,8 @@
 //! The worked cases: small vocabularies, and what is true of each, decided by computing. A saturation by rounds finds facts, a test says
 //! whether they are all, and theorems tie both to the rules and to the finite models. The functions here do nothing; each carries a
 //! theorem in its contract.
+#![tactic(auto)]
+
 ghost use Rattle.cases.specs.Cases.{FurtherCasesHold, WorkedCasesHold};
 ghost use Rattle.cases.specs.Expectations.{BoardsAnswer};
 ghost use Rattle.cases.specs.Rounds.{ConclusionsDrawn, RoundsDerive, RoundsTell};

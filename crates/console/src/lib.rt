@@ -1,5 +1,7 @@
 //! From an input to an output: a text is read to its end, and its listing, or the line that says why there is none, is written. No contract
 //! can speak of what comes in and what goes out, so this is as thin as it can be, and is tested.
+#![tactic(auto)]
+
 ghost use Rattle.std.specs.Prelude.{◌≤◌, length, IfOk};
 
 use listing::text::{PAGE, list};

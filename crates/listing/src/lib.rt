@@ -1,4 +1,6 @@
 //! From the text of a sheet to the listing of its classification.
+#![tactic(auto)]
+
 pub mod page;
 mod rows;
 pub mod text;

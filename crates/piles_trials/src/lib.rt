@@ -1,4 +1,6 @@
 //! Piles at work: both piles on small examples, and what a caller then knows of its list.
+#![tactic(auto)]
+
 ghost use Rattle.std.specs.Prelude.{◌≡◌};
 ghost use Rattle.piles.specs.Lists.{rest};
 

@@ -1,5 +1,7 @@
 //! What follows from a vocabulary: finite models, the rules of derivation, and the theorems that join the two. The functions here do
 //! nothing; each carries a theorem in its contract.
+#![tactic(auto)]
+
 ghost use Rattle.reasoning.specs.Truth.{Sound, Complete, Exact, Least};
 
 /// What a classification finds. Concepts and roles go by their numbers.

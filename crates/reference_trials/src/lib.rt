@@ -1,4 +1,5 @@
 //! The other classifier on sheets whose answers are known, and the generator of random sheets.
+#![tactic(auto)]
 
 #[cfg(test)]
 mod tests {

@@ -1,4 +1,6 @@
 //! Every way in which a call of the library turns its input down, and the number that users know it by.
+#![tactic(auto)]
+
 ghost use Rattle.std.specs.Prelude.{◌≡◌};
 ghost use Rattle.rejections.specs.Numbers.{number_of};
 

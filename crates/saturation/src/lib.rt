@@ -1,5 +1,7 @@
 //! Saturation by shared work: what a board says, what each call does to it, and what holds after any list of calls. A board is the
 //! shared state of one saturation. The functions here do nothing; each carries a theorem in its contract.
+#![tactic(auto)]
+
 ghost use Rattle.saturation.specs.Answers.{QuietAnswersTrue};
 ghost use Rattle.saturation.specs.AnyOrder.{AnyOrder, FreshRunFinishes, RunsFinish, RunsLead};
 

@@ -1,5 +1,7 @@
 //! Workers on one board, any number of them: a caller that shows how the contracts of the board's calls lead, entry by entry, to a
 //! history, and the theorem over histories to the meaning of the answer, which does not depend on how many workers there were.
+#![tactic(auto)]
+
 ghost use Rattle.std.specs.Prelude.{◌≡◌, length};
 ghost use Rattle.rejections.specs.declared.Rejection.{Rejection as Reason};
 ghost use Rattle.terms.specs.Views.{terms_of};

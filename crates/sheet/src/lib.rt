@@ -1,4 +1,6 @@
 //! Term sheets: the text form of a vocabulary, read into terms.
+#![tactic(auto)]
+
 pub mod columns;
 pub mod fault;
 pub mod field;

@@ -1,4 +1,6 @@
 //! Boundary cases of reading a sheet, as tests that run, and a caller that learns from the contracts what its lent lists hold.
+#![tactic(auto)]
+
 ghost use Rattle.std.specs.Prelude.{◌≡◌, length, MatchResult};
 ghost use Rattle.terms.specs.Contents.{nothing};
 ghost use Rattle.terms.specs.Counting.{room_for};

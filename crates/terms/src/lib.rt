@@ -1,4 +1,6 @@
 //! Vocabularies: concepts, inclusions, and the order and transitivity of the roles, held in lists that the caller lends.
+#![tactic(auto)]
+
 pub mod collector;
 pub mod entry;
 pub mod records;

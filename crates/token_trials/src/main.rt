@@ -1,6 +1,8 @@
 //! Every rejection of taking, stepping, lowering and rechecking at its edge: the last value that is accepted, the first that is rejected,
 //! the first of two faults, and that nothing was altered. This is a program and no test, since a token that no board accepted could then
 //! still be handed on: `main` ends with it as its error.
+#![tactic(auto)]
+
 mod hands;
 mod lines;
 mod playing;

@@ -1,4 +1,6 @@
 //! Reads a term sheet from standard input and prints the listing of its classification, or the line that says why there is none.
+#![tactic(auto)]
+
 use console::print_listing;
 use std::io;
 

@@ -1,4 +1,5 @@
 //! Trials: the library against another classifier that shares no code with it, on random sheets, whole and damaged.
+#![tactic(auto)]
 
 #[cfg(test)]
 mod tests {

@@ -1,5 +1,7 @@
 //! Random histories of workers on two boards over the same terms, compared with one single run and with the other classifier. This is a
 //! program and no test, since a token that no board accepted could then still be handed on: `main` ends with it as its error.
+#![tactic(auto)]
+
 mod comparing;
 mod history;
 mod slots;

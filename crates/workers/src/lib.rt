@@ -1,5 +1,7 @@
 //! Two workers on one board: a caller that shows how the contracts of the board's calls lead, entry by entry, to a history, and the
 //! theorem over histories to the meaning of the answer.
+#![tactic(auto)]
+
 ghost use Rattle.std.specs.Prelude.{IfOk};
 ghost use Rattle.terms.specs.Views.{terms_of};
 ghost use Rattle.workers.specs.Sharing.{Onward, Truthful};
