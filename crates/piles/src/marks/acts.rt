@@ -60,7 +60,7 @@ impl<'a> Pile for Marks<'a> {
         ensures smallest { Smallest (in_marks self.old) result }
         ensures kept { RestKept self.old.list self.new.list }
     {
-        for i in 0..MarksPile::size(self) {
+        for i in 0..<Marks<'_> as Pile>::size(self) {
             if self.list[i] != 0 {
                 self.list[i] = 0;
                 return Some(i as u16);

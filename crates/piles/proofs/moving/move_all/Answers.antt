@@ -19,8 +19,8 @@ pub loop-x-preserved : goal.loop-x-preserved
 loop-x-preserved g c =
     moving_out _ _ _ (g.Q.Pile.numbers c.loop-x.b) _ _ c.loop-x.refused c.in-Some.x c.loop-x.invariant c.in-Some.ensures.set c.in-Err.ensures.set
 
-pub overflow-add-refused : goal.overflow-add-refused
-overflow-add-refused g c = omega (arith, refused_small _ _ _ _ c.loop-x.refused c.loop-x.invariant)
+pub overflow_add-refused : goal.overflow_add-refused
+overflow_add-refused g c = omega (arith, refused_small _ _ _ _ c.loop-x.refused c.loop-x.invariant)
 
 pub returns : goal.returns
-returns g c = moving_end _ _ _ _ _ c.loop-x.refused c.loop-x.invariant c.in-default.ensures.set
+returns g c = moving_end _ _ _ _ _ c.loop-x.refused c.loop-x.invariant c.in_default.ensures.set

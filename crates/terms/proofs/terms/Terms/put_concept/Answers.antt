@@ -7,19 +7,10 @@ use Rattle.terms.specs.Views.{contents_of}
 use Rattle.terms.proofs.Grown.{all_more, over_more, over_itself}
 use Rattle.terms.proofs.terms.Terms.put_concept.Goals as goal
 
-pub invariant-of-self : goal.invariant-of-self
-invariant-of-self c =
+pub invariant_of-self : goal.invariant_of-self
+invariant_of-self c =
     let s = c.args.self.now in
-    let lt : s.concept_count < length s.concepts.now = omega arith in (
-      (simp length-set (omega arith), omega arith, omega arith, omega arith, omega arith),
-      (
-        all_more (Earlier s.role_count) s.concepts.now s.concept_count c.args.c Atomic lt s.earlier c.requires.0,
-        (
-          (λ k h. (omega (arith, (s.named k h).0), omega (arith, (s.named k h).1))),
-          (s.reflexive, (s.chains, (s.on_roles, (s.flagged, tt)))),
-        ),
-      ),
-    )
+    let lt : s.concept_count < length s.concepts.now = omega arith in record { fits = (simp length-set (omega arith), omega arith, omega arith, omega arith, omega arith); earlier = all_more (Earlier s.role_count) s.concepts.now s.concept_count c.args.c Atomic lt s.earlier c.requires.0; named = (λ k h. (omega (arith, (s.named k h).0), omega (arith, (s.named k h).1))); reflexive = s.reflexive; chains = s.chains; on_roles = s.on_roles; flagged = s.flagged }
 
 pub returns : goal.returns
 returns c =

@@ -6,19 +6,10 @@ use Rattle.terms.specs.Views.{contents_of}
 use Rattle.terms.proofs.Grown.{all_more, over_more, over_itself}
 use Rattle.terms.proofs.terms.Terms.put_inclusion.Goals as goal
 
-pub invariant-of-self : goal.invariant-of-self
-invariant-of-self c =
+pub invariant_of-self : goal.invariant_of-self
+invariant_of-self c =
     let s = c.args.self.now in
-    let lt : s.inclusion_count < length s.inclusions.now = omega arith in (
-      (omega arith, omega arith, simp length-set (omega arith), omega arith, omega arith),
-      (
-        s.earlier,
-        (
-          all_more (λ _. NamesBelow s.concept_count) s.inclusions.now s.inclusion_count c.args.i blank lt s.named c.requires.0,
-          (s.reflexive, (s.chains, (s.on_roles, (s.flagged, tt)))),
-        ),
-      ),
-    )
+    let lt : s.inclusion_count < length s.inclusions.now = omega arith in record { fits = (omega arith, omega arith, simp length-set (omega arith), omega arith, omega arith); earlier = s.earlier; named = all_more (λ _. NamesBelow s.concept_count) s.inclusions.now s.inclusion_count c.args.i blank lt s.named c.requires.0; reflexive = s.reflexive; chains = s.chains; on_roles = s.on_roles; flagged = s.flagged }
 
 pub returns : goal.returns
 returns c =

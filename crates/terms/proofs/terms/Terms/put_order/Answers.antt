@@ -27,30 +27,12 @@ loop-row-preserved c =
     let long : length s.order ≡ 32 = search rules in
     step (climbed c.args.r (get_or s.order c.args.s 0)) s.order c.loop-row.row-items c.loop-row.row-index c.climb.result (omega arith) c.loop-row.invariant c.climb.ensures
 
-pub invariant-of-self : goal.invariant-of-self
-invariant-of-self c =
+pub invariant_of-self : goal.invariant_of-self
+invariant_of-self c =
     let s = c.args.self.now in
     let n = s.role_count in
     let long : length s.order ≡ 32 = search rules in
-    let e : map (climbed c.args.r (get_or s.order c.args.s 0)) s.order ≡ c.loop-row.row-items = sym (done _ _ _ c.loop-row.row-index (omega arith) c.loop-row.invariant) in (
-      s.fits,
-      (
-        s.earlier,
-        (
-          s.named,
-          (
-            subst (Reflexive n) e (pair_reflexive s.order c.args.r c.args.s n s.reflexive),
-            (
-              subst Transitive e (pair_transitive s.order c.args.r c.args.s s.chains),
-              (
-                subst (OnRoles n) e (pair_on s.order c.args.r c.args.s n s.on_roles),
-                (s.flagged, tt),
-              ),
-            ),
-          ),
-        ),
-      ),
-    )
+    let e : map (climbed c.args.r (get_or s.order c.args.s 0)) s.order ≡ c.loop-row.row-items = sym (done _ _ _ c.loop-row.row-index (omega arith) c.loop-row.invariant) in record { fits = s.fits; earlier = s.earlier; named = s.named; reflexive = subst (Reflexive n) e (pair_reflexive s.order c.args.r c.args.s n s.reflexive); chains = subst Transitive e (pair_transitive s.order c.args.r c.args.s s.chains); on_roles = subst (OnRoles n) e (pair_on s.order c.args.r c.args.s n s.on_roles); flagged = s.flagged }
 
 pub returns : goal.returns
 returns c =

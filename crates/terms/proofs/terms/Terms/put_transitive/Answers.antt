@@ -7,31 +7,10 @@ use Rattle.terms.proofs.Filling.{same_lists}
 use Rattle.terms.proofs.Preorder.{flag_on}
 use Rattle.terms.proofs.terms.Terms.put_transitive.Goals as goal
 
-pub invariant-of-self : goal.invariant-of-self
-invariant-of-self c =
+pub invariant_of-self : goal.invariant_of-self
+invariant_of-self c =
     let s = c.args.self.now in
-    let few : c.args.r < 32 = omega arith in (
-      s.fits,
-      (
-        s.earlier,
-        (
-          s.named,
-          (
-            s.reflexive,
-            (
-              s.chains,
-              (
-                s.on_roles,
-                (
-                  subst (λ w. FlaggedRoles s.role_count (bit_or s.transitive w)) (sym (one_shl c.args.r 32 few)) (flag_on s.role_count s.transitive c.args.r c.requires s.flagged),
-                  tt,
-                ),
-              ),
-            ),
-          ),
-        ),
-      ),
-    )
+    let few : c.args.r < 32 = omega arith in record { fits = s.fits; earlier = s.earlier; named = s.named; reflexive = s.reflexive; chains = s.chains; on_roles = s.on_roles; flagged = subst (λ w. FlaggedRoles s.role_count (bit_or s.transitive w)) (sym (one_shl c.args.r 32 few)) (flag_on s.role_count s.transitive c.args.r c.requires s.flagged) }
 
 pub returns : goal.returns
 returns c =

@@ -6,8 +6,8 @@ use Rattle.piles.proofs.Entries.{held_of_zero, held_of_other}
 use Rattle.piles.proofs.marks.acts.MarksPile.count.Goals as goal
 use Rattle.piles.proofs.marks.acts.MarksPile.count.Goals.{then-self-i-ne0, else-self-i-ne0}
 
-pub overflow-add-n : goal.overflow-add-n
-overflow-add-n c = omega (arith, tally_le (held c.args.self.now.list.now) c.loop-i.i)
+pub overflow_add-n : goal.overflow_add-n
+overflow_add-n c = omega (arith, tally_le (held c.args.self.now.list.now) c.loop-i.i)
 
 pub loop-i-preserved : goal.loop-i-preserved
 loop-i-preserved c =

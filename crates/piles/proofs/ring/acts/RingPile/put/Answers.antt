@@ -15,14 +15,14 @@ use Rattle.piles.proofs.ring.acts.RingPile.put.Goals.{then-self-eq0, else-self-e
 pub bounds-self-last : goal.bounds-self-last
 bounds-self-last c = omega (arith, tail_below c.args.self.now c.if-self-eq0.false)
 
-pub offset-bounds-self-last : goal.offset-bounds-self-last
-offset-bounds-self-last c = omega (arith, tail_below c.args.self.now c.if-self-eq0.false)
+pub offset_bounds-self-last : goal.offset_bounds-self-last
+offset_bounds-self-last c = omega (arith, tail_below c.args.self.now c.if-self-eq0.false)
 
-pub invariant-of-self-else-self-eq0 : goal.invariant-of-self-else-self-eq0
-invariant-of-self-else-self-eq0 c =
+pub invariant_of-self-else-self-eq0 : goal.invariant_of-self-else-self-eq0
+invariant_of-self-else-self-eq0 c =
     let r = c.args.self.now in
     let s = sound_end r.list.now r.head r.tail r.count (c.args.x + 1) c.if-self-eq0.false (λ e. omega arith) (sound_of r) in
-    (s.visits, (s.once, (s.ends, (s.counts, tt))))
+    record { visits = s.visits; once = s.once; ends = s.ends; counts = s.counts }
 
 -- whichever way the ring was made ready for x
 ready_by : (r j : Ring) (x : ℕ) → Type 0
@@ -46,19 +46,19 @@ ready c =
           )
     ]
 
-pub overflow-add-self-3 : goal.overflow-add-self-3
-overflow-add-self-3 c =
+pub overflow_add-self-3 : goal.overflow_add-self-3
+overflow_add-self-3 c =
     let j = c.if-self-eq0.self in
     omega (arith, tally_le (held j.list.now) (room j.list.now), j.counts)
 
-pub invariant-of-self-2 : goal.invariant-of-self-2
+pub invariant_of-self-2 : goal.invariant_of-self-2
 unfolding ready_by
-invariant-of-self-2 c =
+invariant_of-self-2 c =
     let r = c.args.self.now in
     let x = c.args.x in
     let below : x < room r.list.now = omega arith in
     let s = sound_grown (sound_of r) below (ready c).0 (held_of_zero r.list.now x c.if-self-i-ne0.false) in
-    (s.visits, (s.once, (s.ends, (s.counts, tt))))
+    record { visits = s.visits; once = s.once; ends = s.ends; counts = s.counts }
 
 pub returns : goal.returns
 unfolding ready_by
