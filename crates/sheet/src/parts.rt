@@ -9,7 +9,7 @@ pub struct Line<'a> {
     pub feed: u8,
 }
 
-// One pattern with a part between two elements gets no generated proof, so it stands alone here, with its proof by hand.
+// Takes the line apart by one pattern, with a part between two elements.
 pub(crate) fn line_parts(columns: &[u8]) -> Line
     requires { length columns.now ≡ 20 }
     ensures letter { result.letter ≡ slice_index columns.now 0 }

@@ -13,19 +13,19 @@ next v xs i r h e =
     let step : scan v (drop i xs) ≡ and_then (column_of v (get_or xs i 0)) (λ w. scan w (drop (i + 1) xs)) = at_drop_more (scan v) xs i 0 h in
     step ∙ ap (λ (q : Read). and_then q (λ w. scan w (drop (i + 1) xs))) e
 
-pub returns-in-err-value : goal.returns-in-err-value
-returns-in-err-value c =
+pub returns-in_err-value : goal.returns-in_err-value
+returns-in_err-value c =
     let xs = c.args.columns.now in
-    let x = c.in-err-value.field-0.0 in
-    let e : c.from-residual.result ≡ field_of xs =
-    broke c.from-residual.result x c.from-residual.ensures.1
-    ∙ sym (next c.loop-c.value xs c.loop-c.c-index (Err x) (omega arith) (sym c.in-err-value.ensures))
+    let x = c.in_err-value.field-0.0 in
+    let e : c.from_residual.result ≡ field_of xs =
+    broke c.from_residual.result x c.from_residual.ensures.1
+    ∙ sym (next c.loop-c.value xs c.loop-c.c-index (Err x) (omega arith) (sym c.in_err-value.ensures))
     ∙ c.loop-c.invariant in
     record { value = e; law = subst (FieldLaw xs) (sym e) (field_law xs) }
 
 pub loop-c-preserved : goal.loop-c-preserved
 loop-c-preserved c =
-    sym (next c.loop-c.value c.args.columns.now c.loop-c.c-index (Ok c.in-ok-value.value) (omega arith) (sym c.in-ok-value.ensures)) ∙ c.loop-c.invariant
+    sym (next c.loop-c.value c.args.columns.now c.loop-c.c-index (Ok c.in_ok-value.value) (omega arith) (sym c.in_ok-value.ensures)) ∙ c.loop-c.invariant
 
 pub returns : goal.returns
 returns c =

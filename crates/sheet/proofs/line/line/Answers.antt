@@ -5,15 +5,15 @@ use Rattle.sheet.proofs.LinesRead.{line_law}
 use Rattle.sheet.proofs.line.line.Goals as goal
 
 pub stated-requires : goal.stated-requires
-stated-requires c = ap length c.line-parts.ensures.fields ∙ simp (length-take, length-drop) (omega arith)
+stated-requires c = ap length c.line_parts.ensures.fields ∙ simp (length-take, length-drop) (omega arith)
 
 pub returns : goal.returns
 returns c =
     let l = c.args.columns.now in
-    let p = c.line-parts.result in
+    let p = c.line_parts.result in
     let e : c.stated.result ≡ line_of l =
     c.stated.ensures
-    ∙ ap (λ a. kind_line (kind_of a) p.fields.now p.feed) c.line-parts.ensures.letter
-    ∙ ap (λ fs. kind_line (kind_of (get_or l 0 0)) fs p.feed) c.line-parts.ensures.fields
-    ∙ ap (λ a. kind_line (kind_of (get_or l 0 0)) (take 18 (drop 1 l)) a) c.line-parts.ensures.feed in
+    ∙ ap (λ a. kind_line (kind_of a) p.fields.now p.feed) c.line_parts.ensures.letter
+    ∙ ap (λ fs. kind_line (kind_of (get_or l 0 0)) fs p.feed) c.line_parts.ensures.fields
+    ∙ ap (λ a. kind_line (kind_of (get_or l 0 0)) (take 18 (drop 1 l)) a) c.line_parts.ensures.feed in
     record { value = e; law = subst (LineLaw l) (sym e) (line_law l (omega arith)) }

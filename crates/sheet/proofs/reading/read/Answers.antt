@@ -22,37 +22,37 @@ counted_by : (text : List ℕ) (ls : List (List ℕ)) (t : Tally) (m : Room) (r 
     → count_lines 1 (lines_in text) (none_of m) ≡ r
 counted_by text ls t m r p q e = ap (λ xs. count_lines 1 xs (none_of m)) (sym p) ∙ ap (count_lines 1 ls) (sym q) ∙ e
 
-pub returns-in-err-lines : goal.returns-in-err-lines
-returns-in-err-lines c =
+pub returns-in_err-lines : goal.returns-in_err-lines
+returns-in_err-lines c =
     let text = c.args.text.now in
     let m = room_of c.args.terms.now in
-    let f = c.in-err-lines.field-0.0 in
-    let h = c.in-err-lines.ensures in
-    let e : c.from-residual.result ≡ Err f = broke c.from-residual.result f c.from-residual.ensures.1 in
+    let f = c.in_err-lines.field-0.0 in
+    let h = c.in_err-lines.ensures in
+    let e : c.from_residual.result ≡ Err f = broke c.from_residual.result f c.from_residual.ensures.1 in
     let s : sheet_of m text ≡ Err f = sheet_cut m text h.0 ∙ ap {A = Fault} {B = Result ℕ Fault} Err (sym h.1) in
     record { result = e ∙ sym s; terms = cases_of_err _ _ e refl; law = cases_of_err _ _ e (refuses m text f s) }
 
-pub returns-in-err-take-lines : goal.returns-in-err-take-lines
-returns-in-err-take-lines c =
+pub returns-in_err-take_lines : goal.returns-in_err-take_lines
+returns-in_err-take_lines c =
     let text = c.args.text.now in
     let m = room_of c.args.terms.now in
-    let f = c.in-err-take-lines.field-0.0 in
-    let h = c.in-ok-lines.ensures in
-    let e : c.from-residual-in-err-take-lines.result ≡ Err f = broke c.from-residual-in-err-take-lines.result f c.from-residual-in-err-take-lines.ensures.1 in
+    let f = c.in_err-take_lines.field-0.0 in
+    let h = c.in_ok-lines.ensures in
+    let e : c.from_residual-in_err-take_lines.result ≡ Err f = broke c.from_residual-in_err-take_lines.result f c.from_residual-in_err-take_lines.ensures.1 in
     let k : count_lines 1 (lines_in text) (none_of m) ≡ Err f =
-    counted_by text c.in-ok-lines.lines.now c.none-tally.result m (Err f) h.1 (begun (goal.at.returns-in-err-take-lines c).After-none-tally) c.in-err-take-lines.ensures in
+    counted_by text c.in_ok-lines.lines.now c.none-tally.result m (Err f) h.1 (begun (goal.at.returns-in_err-take_lines c).After-none-tally) c.in_err-take_lines.ensures in
     let s : sheet_of m text ≡ Err f = sheet_err m text h.0 f k in
     record { result = e ∙ sym s; terms = cases_of_err _ _ e refl; law = cases_of_err _ _ e (refuses m text f s) }
 
 -- lines that were counted without a fault have none for the cleared terms
-pub returns-in-err-take-lines-2 : goal.returns-in-err-take-lines-2
-returns-in-err-take-lines-2 c =
+pub returns-in_err-take_lines-2 : goal.returns-in_err-take_lines-2
+returns-in_err-take_lines-2 c =
     let t = c.args.terms.now in
-    let ls = c.in-ok-lines.lines.now in
-    let good : count_lines 1 ls (none_of (room_of t)) ≡ Ok c.take-lines.new.into =
-    ap (count_lines 1 ls) (sym (begun (goal.at.returns-in-err-take-lines-2 c).After-none-tally)) ∙ c.in-ok-take-lines.ensures.counts_on in
-    let bad : count_lines 1 ls (none_of (room_of t)) ≡ Err c.in-err-take-lines-2.field-0.0 =
-    ap (count_lines 1 ls) (sym (cleared_counts t c.clear.new.self c.clear.ensures.contents c.clear.ensures.lists)) ∙ c.in-err-take-lines-2.ensures in
+    let ls = c.in_ok-lines.lines.now in
+    let good : count_lines 1 ls (none_of (room_of t)) ≡ Ok c.take_lines.new.into =
+    ap (count_lines 1 ls) (sym (begun (goal.at.returns-in_err-take_lines-2 c).After-none-tally)) ∙ c.in_ok-take_lines.ensures.counts_on in
+    let bad : count_lines 1 ls (none_of (room_of t)) ≡ Err c.in_err-take_lines-2.field-0.0 =
+    ap (count_lines 1 ls) (sym (cleared_counts t c.clear.new.self c.clear.ensures.contents c.clear.ensures.lists)) ∙ c.in_err-take_lines-2.ensures in
     let z : ◌≡◌ {A = ℕ} 0 1 = cc in
     absurd (omega arith)
 
@@ -60,14 +60,14 @@ pub returns : goal.returns
 returns c =
     let text = c.args.text.now in
     let t = c.args.terms.now in
-    let u = c.take-lines-2.new.into in
+    let u = c.take_lines-2.new.into in
     let m = room_of t in
-    let h = c.in-ok-lines.ensures in
-    let w = c.in-ok-take-lines.ensures in
-    let k : count_lines 1 (lines_in text) (none_of m) ≡ Ok c.take-lines.new.into =
-    counted_by text c.in-ok-lines.lines.now c.none-tally.result m (Ok c.take-lines.new.into) h.1 (begun (goal.at.returns c).After-none-tally) w.counts_on in
-    let n : length c.in-ok-lines.lines.now ≡ length text / 20 = ap length h.1 ∙ length_lines (length text / 20) text in
-    let s : sheet_of m text ≡ Ok (length c.in-ok-lines.lines.now) = sheet_ok m text h.0 c.take-lines.new.into k ∙ ap {A = ℕ} {B = Result ℕ Fault} Ok (sym n) in
+    let h = c.in_ok-lines.ensures in
+    let w = c.in_ok-take_lines.ensures in
+    let k : count_lines 1 (lines_in text) (none_of m) ≡ Ok c.take_lines.new.into =
+    counted_by text c.in_ok-lines.lines.now c.none-tally.result m (Ok c.take_lines.new.into) h.1 (begun (goal.at.returns c).After-none-tally) w.counts_on in
+    let n : length c.in_ok-lines.lines.now ≡ length text / 20 = ap length h.1 ∙ length_lines (length text / 20) text in
+    let s : sheet_of m text ≡ Ok (length c.in_ok-lines.lines.now) = sheet_ok m text h.0 c.take_lines.new.into k ∙ ap {A = ℕ} {B = Result ℕ Fault} Ok (sym n) in
     let r = replaced t c.clear.new.self u (entries_of (lines_in text)) c.clear.ensures.contents c.clear.ensures.lists
-    (subst (λ ls. Took Added (entries_of ls) c.clear.new.self u) h.1 c.in-ok-take-lines-2.ensures.taken) in
+    (subst (λ ls. Took Added (entries_of ls) c.clear.new.self u) h.1 c.in_ok-take_lines-2.ensures.taken) in
     record { result = sym s; terms = r; law = reads_as m text _ _ s (ap vocabulary_of r.0) }

@@ -10,10 +10,10 @@ pub returns : goal.returns
 returns g c =
     let k = c.args.number in
     let l = c.args.columns.now in
-    let e = c.in-ok-entry.entry in
+    let e = c.in_ok-entry.entry in
     let s = g.C.Collector.counts c.args.into.now in
-    let p : line_of l ≡ Ok e = sym c.line.ensures.value ∙ placed_ok k c.line.result e (sym c.in-ok-entry.ensures) in
-    let v : c.add.result ≡ Ok tt = placed_ok k c.add.result tt (sym c.in-ok-at.ensures) in
+    let p : line_of l ≡ Ok e = sym c.line.ensures.value ∙ placed_ok k c.line.result e (sym c.in_ok-entry.ensures) in
+    let v : c.add.result ≡ Ok tt = placed_ok k c.add.result tt (sym c.in_ok-at.ensures) in
     let d = ok_case c.add.result tt _ _ v c.add.ensures.state in
     record {
       entry = e;

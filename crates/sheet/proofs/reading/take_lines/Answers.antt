@@ -13,18 +13,18 @@ loop-i-preserved g c =
     let ls = c.args.lines.now in
     let i = c.loop-i.i in
     let f = g.C.Collector.counts in
-    let h = c.in-ok-take-line.ensures in (
-      sym (count_on (i + 1) ls i (f c.loop-i.into) (f c.take-line.new.into) c.loop-i-test.true h.counts_on) ∙ c.loop-i.invariant.0,
-      took_more g.C.Collector.grows ls i h.entry c.args.into.now c.loop-i.into c.take-line.new.into c.loop-i-test.true h.states c.loop-i.invariant.1 h.taken,
+    let h = c.in_ok-take_line.ensures in (
+      sym (count_on (i + 1) ls i (f c.loop-i.into) (f c.take_line.new.into) c.loop-i-test.true h.counts_on) ∙ c.loop-i.invariant.0,
+      took_more g.C.Collector.grows ls i h.entry c.args.into.now c.loop-i.into c.take_line.new.into c.loop-i-test.true h.states c.loop-i.invariant.1 h.taken,
     )
 
-pub returns-in-err-take-line : goal.returns-in-err-take-line
-returns-in-err-take-line g c =
+pub returns-in_err-take_line : goal.returns-in_err-take_line
+returns-in_err-take_line g c =
     let ls = c.args.lines.now in
     let i = c.loop-i.i in
-    let x = c.in-err-take-line.field-0.0 in
-    let e : c.from-residual.result ≡ Err x = broke c.from-residual.result x c.from-residual.ensures.1 in
-    cases_of_err _ _ e (sym c.loop-i.invariant.0 ∙ count_stops (i + 1) ls i (g.C.Collector.counts c.loop-i.into) x c.loop-i-test.true c.in-err-take-line.ensures.0)
+    let x = c.in_err-take_line.field-0.0 in
+    let e : c.from_residual.result ≡ Err x = broke c.from_residual.result x c.from_residual.ensures.1 in
+    cases_of_err _ _ e (sym c.loop-i.invariant.0 ∙ count_stops (i + 1) ls i (g.C.Collector.counts c.loop-i.into) x c.loop-i-test.true c.in_err-take_line.ensures.0)
 
 pub returns : goal.returns
 returns g c =
