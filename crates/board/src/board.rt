@@ -19,7 +19,7 @@ mod writes;
 /// A board on which work goes on. It keeps the found grade of each fact, the done grade of each job and the state of each concept in
 /// `words`, which the caller lends.
 #[derive(Drop)]
-pub struct OpenBoard<'a, K: GradeKind> {
+pub struct OpenBoard<'a, K> {
     words: &'a mut [u16],
     concepts: usize,
     roles: usize,

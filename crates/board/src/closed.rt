@@ -9,7 +9,7 @@ mod reading;
 
 /// A board to ask. It lies over the same words as the open board that it was, and says the same.
 #[derive(Drop)]
-pub struct ClosedBoard<'a, K: GradeKind> {
+pub struct ClosedBoard<'a, K> {
     pub(crate) words: &'a mut [u16],
     pub(crate) concepts: usize,
     pub(crate) roles: usize,

@@ -8,22 +8,22 @@ use Rattle.board.proofs.Tallies.{tally_found, count_none}
 use Rattle.board.proofs.checking.check.Goals as goal
 use Rattle.board.proofs.checking.check.Goals.{then-size-concepts-via-then-size-concepts, then-size-concepts-via-else-size-concepts+then-count-gt0}
 
-pub words-needed-requires : goal.words-needed-requires
-words-needed-requires g c =
+pub words_needed-requires : goal.words_needed-requires
+words_needed-requires g c =
     let W = well_formed c.args.terms.now in
     (omega (arith, W.few_concepts, ap length c.concepts-concepts.ensures), omega (arith, W.few_roles))
 
-pub returns-in-err-check-codes : goal.returns-in-err-check-codes
-returns-in-err-check-codes g c =
-    let p = err_from_is_err_and c.from-residual.result c.from-residual.ensures.1 in
-    rw (p.1, p.2) (c.in-err-check-codes.ensures (length c.args.words.now) (g.P.Pile.numbers c.args.pile.now))
+pub returns-in_err-check_codes : goal.returns-in_err-check_codes
+returns-in_err-check_codes g c =
+    let p = err_from_is_err_and c.from_residual.result c.from_residual.ensures.1 in
+    rw (p.1, p.2) (c.in_err-check_codes.ensures (length c.args.words.now) (g.P.Pile.numbers c.args.pile.now))
 
-pub returns-then-words-words-needed : goal.returns-then-words-words-needed
-returns-then-words-words-needed g c =
+pub returns-then-words-words_needed : goal.returns-then-words-words_needed
+returns-then-words-words_needed g c =
     let v = terms_of c.args.terms.now in
     let e : room (length c.concepts-concepts.result.now) c.roles.result ≡ room (length v.concepts) v.roles =
     ap (λ n. room n c.roles.result) (ap length c.concepts-concepts.ensures) ∙ ap (room (length v.concepts)) c.roles.ensures in
-    MakeRejected.too_few_words c.in-ok-check-codes.ensures (omega (arith, e))
+    MakeRejected.too_few_words c.in_ok-check_codes.ensures (omega (arith, e))
 
 pub returns-then-size-concepts : goal.returns-then-size-concepts
 returns-then-size-concepts g c =
@@ -36,7 +36,7 @@ returns-then-size-concepts g c =
       | then-size-concepts-via-then-size-concepts w ↦ inl (let l = w.if-size-concepts.true in omega (arith, ap length c.concepts-concepts.ensures))
       | then-size-concepts-via-else-size-concepts+then-count-gt0 w ↦ inr (tally_found s.holds s.size (let l = w.if-count-gt0.true in let q = w.count.ensures in omega arith))
     ] in
-    MakeRejected.unfit_pile c.in-ok-check-codes.ensures (omega (arith, e)) why
+    MakeRejected.unfit_pile c.in_ok-check_codes.ensures (omega (arith, e)) why
 
 pub returns : goal.returns
 returns g c =
@@ -44,7 +44,7 @@ returns g c =
     let e : room (length c.concepts-concepts.result.now) c.roles.result ≡ room (length v.concepts) v.roles =
     ap (λ n. room n c.roles.result) (ap length c.concepts-concepts.ensures) ∙ ap (room (length v.concepts)) c.roles.ensures in
     record {
-      coded = c.in-ok-check-codes.ensures;
+      coded = c.in_ok-check_codes.ensures;
       enough = omega (arith, e);
       wide = omega (arith, ap length c.concepts-concepts.ensures);
       empty = count_none (g.P.Pile.numbers c.args.pile.now) (omega arith);

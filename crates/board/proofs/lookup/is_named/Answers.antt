@@ -8,6 +8,6 @@ pub returns : goal.returns
 returns c =
     let v = terms_of c.args.terms.now in
     record {
-      named = λ e. named_is v c.args.c (sym c.is_named_lem.ensures ∙ e);
-      other = λ e i. both_ways c.is_named_lem.result e (c.is_named_lem.ensures ∙ is_named_lem v c.args.c i);
+      named = λ e. named_is v c.args.c (sym c.is_named.ensures ∙ e);
+      other = λ e i. both_ways c.is_named.result e (c.is_named.ensures ∙ is_named_lem v c.args.c i);
     }

@@ -7,13 +7,13 @@ use Rattle.board.specs.Views.{spot, mark, state_of}
 use Rattle.board.proofs.Words.{spot_inside, mark_inside}
 use Rattle.board.proofs.board.OpenBoard.blank.Goals as goal
 
-pub words-needed-requires : goal.words-needed-requires
-words-needed-requires g c =
+pub words_needed-requires : goal.words_needed-requires
+words_needed-requires g c =
     let W = well_formed c.args.terms.now in
     (omega (arith, W.few_concepts, ap length c.concepts-concepts.ensures), omega (arith, W.few_roles))
 
-pub invariant-of-result : goal.invariant-of-result
-invariant-of-result g c =
+pub invariant_of-result : goal.invariant_of-result
+invariant_of-result g c =
     let W = well_formed c.args.terms.now in
     let n = length c.concepts-concepts.result.now in
     let m = c.roles-roles.result in
@@ -21,7 +21,7 @@ invariant-of-result g c =
     let r : room n m ≤ length c.args.words.now =
     subst₂ (λ x y. room x y ≤ length c.args.words.now) (sym en) (sym c.roles-roles.ensures) c.requires in
     let S : StateWords n c.fill-2.new.words = λ x l. omega (arith, c.fill-2.ensures.before x l, c.fill.ensures.inside x (omega arith) l) in
-    ((omega (arith, W.few_concepts), omega (arith, W.few_roles)), ((omega arith), (S, tt)))
+    record { few = (omega (arith, W.few_concepts), omega (arith, W.few_roles)); fits = (omega arith); states = S }
 
 pub returns : goal.returns
 returns g c =
@@ -31,7 +31,7 @@ returns g c =
     let en : n ≡ length v.concepts = ap length c.concepts-concepts.ensures in
     let em : m ≡ v.roles = c.roles-roles.ensures in
     let F = c.fill-2.ensures in
-    let need_words : c.words-needed.result ≡ room n m = c.words-needed.ensures in
+    let need_words : c.words_needed.result ≡ room n m = c.words_needed.ensures in
     let none : c.none.result ≡ g.K.GradeKind.kind.none = c.none.ensures in
     record {
       blank = record {

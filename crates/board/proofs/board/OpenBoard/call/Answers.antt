@@ -50,8 +50,8 @@ returns-in-Restriction g c =
           w.0 l);
     }
 
-pub returns-in-default : goal.returns-in-default
-returns-in-default g c =
+pub returns-in_default : goal.returns-in_default
+returns-in_default g c =
     let v = terms_of c.args.terms.now in
     let n = c.in-Under.c in
     let d = c.in-Under.d in
@@ -63,7 +63,7 @@ returns-in-default g c =
       called = subst (λ f. Called v f A B) (sym c.in-Under.is) (called_one v (under n d) c.args.self.now.concepts c.args.self.now.roles n A B
           c.requires.ready.concepts c.requires.ready.roles
           c.queue.ensures.nudged (left_works v n d w)
-          (λ x u. ⊎_elim (λ e. e) (λ s. absurd (c.in-default.not-Restriction s.0 x (c.concept-at.ensures ∙ s.1.1))) (works_under v n d x u)) w.0);
+          (λ x u. ⊎_elim (λ e. e) (λ s. absurd (c.in_default.not-Restriction s.0 x (c.concept_at.ensures ∙ s.1.1))) (works_under v n d x u)) w.0);
     }
 
 pub returns-in-Implies : goal.returns-in-Implies

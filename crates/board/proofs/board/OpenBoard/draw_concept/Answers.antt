@@ -9,8 +9,8 @@ use Rattle.board.proofs.Drawing.{drawn_ready, drawn_then, drawn_alike, drawn_gua
 use Rattle.board.proofs.Shapes.{left_below, right_below, role_below, pair_done}
 use Rattle.board.proofs.board.OpenBoard.draw_concept.Goals as goal
 
-pub draw-pair-requires : goal.draw-pair-requires
-draw-pair-requires g c =
+pub draw_pair-requires : goal.draw_pair-requires
+draw_pair-requires g c =
     record {
       ready = c.requires.ready;
       left = c.requires.left;
@@ -18,10 +18,10 @@ draw-pair-requires g c =
       far = right_below (terms_of c.args.terms.now) (well_formed c.args.terms.now) c.args.x c.in-Conjunction.d c.in-Conjunction.e (c.requires.right, sym c.in-Conjunction.ensures);
     }
 
-pub draw-pair-requires-in-Conjunction : goal.draw-pair-requires-in-Conjunction
-draw-pair-requires-in-Conjunction g c =
+pub draw_pair-requires-in-Conjunction : goal.draw_pair-requires-in-Conjunction
+draw_pair-requires-in-Conjunction g c =
     record {
-      ready = drawn_ready c.draw-pair.ensures c.requires.ready;
+      ready = drawn_ready c.draw_pair.ensures c.requires.ready;
       left = c.requires.left;
       right = c.requires.right;
       far = left_below (terms_of c.args.terms.now) (well_formed c.args.terms.now) c.args.x c.in-Conjunction.d c.in-Conjunction.e (c.requires.right, sym c.in-Conjunction.ensures);
@@ -44,15 +44,15 @@ returns-in-Conjunction g c =
     let d = c.in-Conjunction.d in
     let e = c.in-Conjunction.e in
     let a = c.args.self.now in
-    let m = c.draw-pair.new.self in
+    let m = c.draw_pair.new.self in
     let same : (board_of m).done (own o.left d) ≡ (board_of a).done (own o.left d) =
-    c.draw-pair.ensures.raises.done (own o.left d) (c.requires.left, left_below v W c.args.x d e (c.requires.right, sym c.in-Conjunction.ensures)) in
-    let D : Drawn v k g.P.Pile.numbers (ByPair k (board_of a).done o c.args.x e d) m c.draw-pair.new.pile c.draw-pair-in-Conjunction.new.self c.draw-pair-in-Conjunction.new.pile =
-    drawn_alike L W c.draw-pair-in-Conjunction.ensures
+    c.draw_pair.ensures.raises.done (own o.left d) (c.requires.left, left_below v W c.args.x d e (c.requires.right, sym c.in-Conjunction.ensures)) in
+    let D : Drawn v k g.P.Pile.numbers (ByPair k (board_of a).done o c.args.x e d) m c.draw_pair.new.pile c.draw_pair-in-Conjunction.new.self c.draw_pair-in-Conjunction.new.pile =
+    drawn_alike L W c.draw_pair-in-Conjunction.ensures
     (pair_done k (board_of m).done (board_of a).done o c.args.x e d same)
     (pair_done k (board_of a).done (board_of m).done o c.args.x e d (sym same)) in
-    subst (λ κ. Drawn v k g.P.Pile.numbers (ByShape k (board_of a).done o c.args.x κ) a c.args.pile.now c.draw-pair-in-Conjunction.new.self c.draw-pair-in-Conjunction.new.pile)
-    c.in-Conjunction.ensures (drawn_then L W c.draw-pair.ensures D)
+    subst (λ κ. Drawn v k g.P.Pile.numbers (ByShape k (board_of a).done o c.args.x κ) a c.args.pile.now c.draw_pair-in-Conjunction.new.self c.draw_pair-in-Conjunction.new.pile)
+    c.in-Conjunction.ensures (drawn_then L W c.draw_pair.ensures D)
 
 pub returns-then-d-known : goal.returns-then-d-known
 returns-then-d-known g c =

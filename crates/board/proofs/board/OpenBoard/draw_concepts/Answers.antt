@@ -8,8 +8,8 @@ use Rattle.board.proofs.Drawing.{drawn_ready, drawn_alike, turns_none, turns_mor
 use Rattle.board.proofs.Shapes.{concept_done}
 use Rattle.board.proofs.board.OpenBoard.draw_concepts.Goals as goal
 
-pub draw-concept-requires : goal.draw-concept-requires
-draw-concept-requires g c = record { ready = drawn_ready c.loop-x.invariant c.requires.ready; left = c.requires.left; right = omega (arith, ap length c.concepts-x-end.ensures) }
+pub draw_concept-requires : goal.draw_concept-requires
+draw_concept-requires g c = record { ready = drawn_ready c.loop-x.invariant c.requires.ready; left = c.requires.left; right = omega (arith, ap length c.concepts-x-end.ensures) }
 
 pub loop-x-init : goal.loop-x-init
 loop-x-init g c = turns_none g.met.K.GradeKind.lawful (well_formed c.args.terms.now)
@@ -27,7 +27,7 @@ loop-x-preserved g c =
     let e : (x : ℕ) → x < length v.concepts → (board_of b).done (own o.left x) ≡ (board_of a).done (own o.left x) =
     λ x h. c.loop-x.invariant.raises.done (own o.left x) (c.requires.left, h) in
     turns_more L W {P = ByConcept v k (board_of a).done o} c.loop-x.invariant
-    (drawn_alike L W c.draw-concept.ensures
+    (drawn_alike L W c.draw_concept.ensures
     (concept_done v W k (board_of b).done (board_of a).done o c.loop-x.x e l)
     (concept_done v W k (board_of a).done (board_of b).done o c.loop-x.x (λ x h. sym (e x h)) l))
 

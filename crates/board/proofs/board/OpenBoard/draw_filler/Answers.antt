@@ -12,5 +12,5 @@ returns-then-b-implication g c =
     let k = g.K.GradeKind.kind in
     let v = terms_of c.args.terms.now in
     let a = c.args.self.now in
-    subst (λ κ. Drawn v k g.P.Pile.numbers (ByFiller v k (board_of a).done c.args.implication c.args.x κ) a c.args.pile.now c.draw-join.new.self c.draw-join.new.pile)
-    c.in-Restriction.ensures (drawn_guarded g.met.K.GradeKind.lawful (well_formed c.args.terms.now) c.if-b-implication.true c.draw-join.ensures)
+    subst (λ κ. Drawn v k g.P.Pile.numbers (ByFiller v k (board_of a).done c.args.implication c.args.x κ) a c.args.pile.now c.draw_join.new.self c.draw_join.new.pile)
+    c.in-Restriction.ensures (drawn_guarded g.met.K.GradeKind.lawful (well_formed c.args.terms.now) c.if-b-implication.true c.draw_join.ensures)

@@ -18,8 +18,8 @@ use Rattle.board.proofs.board.OpenBoard.draw_implication.Goals as goal
 By : Vocabulary → Kind → (Job → ℕ) → Implication → ℕ → Fact → ℕ → Type 0
 By v k done m x = ByFiller v k done m x (get_or v.concepts x Atomic)
 
-pub draw-filler-requires : goal.draw-filler-requires
-draw-filler-requires g c = record { ready = drawn_ready c.loop-x.invariant c.requires.ready; right = c.requires.right; by = omega (arith, ap length c.concepts-x-end.ensures) }
+pub draw_filler-requires : goal.draw_filler-requires
+draw_filler-requires g c = record { ready = drawn_ready c.loop-x.invariant c.requires.ready; right = c.requires.right; by = omega (arith, ap length c.concepts-x-end.ensures) }
 
 pub loop-x-init : goal.loop-x-init
 loop-x-init g c = turns_none g.met.K.GradeKind.lawful (well_formed c.args.terms.now)
@@ -38,7 +38,7 @@ loop-x-preserved g c =
     let next = (board_of c.loop-x.self).done in
     let same : (i : Job) → Within v (fact_of i) → next i ≡ first i = c.loop-x.invariant.raises.done in
     turns_more L W {P = By v k first m} c.loop-x.invariant
-    (drawn_alike L W c.draw-filler.ensures
+    (drawn_alike L W c.draw_filler.ensures
     (filler_done v k next first m x (get_or v.concepts x Atomic) c.requires.right h same)
     (filler_done v k first next m x (get_or v.concepts x Atomic) c.requires.right h (λ i u. sym (same i u))))
 

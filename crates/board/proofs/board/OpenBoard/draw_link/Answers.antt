@@ -19,8 +19,8 @@ use Rattle.board.proofs.board.OpenBoard.draw_link.Goals as goal
 By : Vocabulary → Kind → (Job → ℕ) → Link → ℕ → Fact → ℕ → Type 0
 By v k done l s = ByJoin v k done (Implications l.left s l.filler) (record { link = l.role; implication = s; grade = l.grade })
 
-pub draw-join-requires : goal.draw-join-requires
-draw-join-requires g c = record { ready = drawn_ready c.loop-s.invariant c.requires.ready; placed = (c.requires.left, omega arith, c.requires.filler) }
+pub draw_join-requires : goal.draw_join-requires
+draw_join-requires g c = record { ready = drawn_ready c.loop-s.invariant c.requires.ready; placed = (c.requires.left, omega arith, c.requires.filler) }
 
 pub loop-s-init : goal.loop-s-init
 loop-s-init g c = turns_none g.met.K.GradeKind.lawful (well_formed c.args.terms.now)
@@ -39,7 +39,7 @@ loop-s-preserved g c =
     let next = (board_of c.loop-s.self).done in
     let same : (i : Job) → Within v (fact_of i) → next i ≡ first i = c.loop-s.invariant.raises.done in
     turns_more L W {P = By v k first l} c.loop-s.invariant
-    (drawn_alike L W c.draw-join.ensures
+    (drawn_alike L W c.draw_join.ensures
     (join_done v k next first (Implications l.left s l.filler) j (c.requires.left, omega arith, c.requires.filler) same)
     (join_done v k first next (Implications l.left s l.filler) j (c.requires.left, omega arith, c.requires.filler) (λ i h. sym (same i h))))
 

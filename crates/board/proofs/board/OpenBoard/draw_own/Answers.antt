@@ -15,10 +15,10 @@ returns g c =
     let W = well_formed c.args.terms.now in
     let o = c.args.known in
     let a = c.args.self.now in
-    let b = c.draw-parts.new.self in
+    let b = c.draw_parts.new.self in
     let e : (x : ℕ) → x < length v.concepts → (board_of b).done (own o.left x) ≡ (board_of a).done (own o.left x) =
-    λ x h. c.draw-parts.ensures.raises.done (own o.left x) (c.requires.left, h) ∙ c.draw-stated.ensures.raises.done (own o.left x) (c.requires.left, h) in
-    drawn_then L W (drawn_then L W c.draw-stated.ensures c.draw-parts.ensures)
-    (drawn_alike L W c.draw-concepts.ensures
+    λ x h. c.draw_parts.ensures.raises.done (own o.left x) (c.requires.left, h) ∙ c.draw_stated.ensures.raises.done (own o.left x) (c.requires.left, h) in
+    drawn_then L W (drawn_then L W c.draw_stated.ensures c.draw_parts.ensures)
+    (drawn_alike L W c.draw_concepts.ensures
     (λ f p t. (t.0, t.1, concept_done v W k (board_of b).done (board_of a).done o t.0 e t.1 f p t.2))
     (λ f p t. (t.0, t.1, concept_done v W k (board_of a).done (board_of b).done o t.0 (λ x h. sym (e x h)) t.1 f p t.2)))

@@ -8,8 +8,8 @@ use Rattle.board.proofs.Drawing.{drawn_ready, turns_none, turns_more, turns_all}
 use Rattle.board.proofs.JoinRules.{partner_within}
 use Rattle.board.proofs.board.OpenBoard.draw_partners.Goals as goal
 
-pub draw-partner-requires : goal.draw-partner-requires
-draw-partner-requires g c =
+pub draw_partner-requires : goal.draw_partner-requires
+draw_partner-requires g c =
     record { ready = drawn_ready c.loop-i.invariant c.requires.ready; placed = c.requires.placed; heads = c.requires.heads; number = omega (arith, ap length c.concepts-i-end.ensures) }
 
 pub loop-i-init : goal.loop-i-init
@@ -23,8 +23,8 @@ loop-i-preserved g c =
     let ps = c.args.partners in
     let l : i < length v.concepts = omega (arith, ap length c.concepts-i-end.ensures) in
     turns_more g.met.K.GradeKind.lawful (well_formed c.args.terms.now) {P = ByPartner k (board_of c.args.self.now).done ps c.args.head c.args.grade} c.loop-i.invariant
-    (subst (λ u. Drawn v k g.P.Pile.numbers (Gains k (conclusion ps c.args.head i) (k.meet c.args.grade u)) c.loop-i.self c.loop-i.pile c.draw-partner.new.self c.draw-partner.new.pile)
-    (c.loop-i.invariant.raises.done (partner ps i) (partner_within v ps i c.requires.placed l)) c.draw-partner.ensures)
+    (subst (λ u. Drawn v k g.P.Pile.numbers (Gains k (conclusion ps c.args.head i) (k.meet c.args.grade u)) c.loop-i.self c.loop-i.pile c.draw_partner.new.self c.draw_partner.new.pile)
+    (c.loop-i.invariant.raises.done (partner ps i) (partner_within v ps i c.requires.placed l)) c.draw_partner.ensures)
 
 pub returns : goal.returns
 returns g c =

@@ -11,10 +11,10 @@ use Rattle.board.specs.JoinDraws.{ByPartners, ByRole}
 use Rattle.board.proofs.Drawing.{drawn_ready, drawn_alike, drawn_guarded, drawn_none, turns_none, turns_more, turns_all}
 use Rattle.board.proofs.JoinRules.{partners_done}
 use Rattle.board.proofs.board.OpenBoard.draw_roles.Goals as goal
-use Rattle.board.proofs.board.OpenBoard.draw_roles.Goals.{then-is-below+then-is-below-2+then-is-transitive, else-is-below, else-is-below-via-then-is-below+then-is-below-2+else-is-transitive, else-is-below-via-then-is-below+else-is-below-2, else-is-below-via-else-is-below}
+use Rattle.board.proofs.board.OpenBoard.draw_roles.Goals.{then-is_below+then-is_below-2+then-is_transitive, else-is_below, else-is_below-via-then-is_below+then-is_below-2+else-is_transitive, else-is_below-via-then-is_below+else-is_below-2, else-is_below-via-else-is_below}
 
-pub draw-partners-requires : goal.draw-partners-requires
-draw-partners-requires g c = record { ready = drawn_ready c.loop-t.invariant c.requires.ready; placed = c.requires.placed; heads = omega arith }
+pub draw_partners-requires : goal.draw_partners-requires
+draw_partners-requires g c = record { ready = drawn_ready c.loop-t.invariant c.requires.ready; placed = c.requires.placed; heads = omega arith }
 
 pub loop-t-init : goal.loop-t-init
 loop-t-init g c = turns_none g.met.K.GradeKind.lawful (well_formed c.args.terms.now)
@@ -32,20 +32,20 @@ loop-t-preserved g c =
     let a = c.loop-t.self in
     let p = c.loop-t.pile in
     let same : (i : Job) → Within v (fact_of i) → (board_of a).done i ≡ first i = c.loop-t.invariant.raises.done in
-    let turn : Drawn v k g.P.Pile.numbers (ByRole v k first ps j t) a p c.if-is-below.self c.if-is-below.pile =
-    elim c.if-is-below.branch [
-      | then-is-below+then-is-below-2+then-is-transitive w ↦
+    let turn : Drawn v k g.P.Pile.numbers (ByRole v k first ps j t) a p c.if-is_below.self c.if-is_below.pile =
+    elim c.if-is_below.branch [
+      | then-is_below+then-is_below-2+then-is_transitive w ↦
           subst₂ (λ b q. Drawn v k g.P.Pile.numbers (ByRole v k first ps j t) a p b q) (sym w.self-is) (sym w.pile-is)
-          (drawn_guarded L W (sym w.if-is-below.ensures, sym w.if-is-below-2.ensures, sym w.if-is-transitive.ensures)
-          (drawn_alike L W w.draw-partners.ensures
+          (drawn_guarded L W (sym w.if-is_below.ensures, sym w.if-is_below-2.ensures, sym w.if-is_transitive.ensures)
+          (drawn_alike L W w.draw_partners.ensures
           (partners_done v k (board_of a).done first ps (Through t) j.grade c.requires.placed same)
           (partners_done v k first (board_of a).done ps (Through t) j.grade c.requires.placed (λ i h. sym (same i h)))))
-      | else-is-below w ↦
+      | else-is_below w ↦
           subst₂ (λ b q. Drawn v k g.P.Pile.numbers (ByRole v k first ps j t) a p b q) (sym w.self-is) (sym w.pile-is)
-          (drawn_none L W (λ f x u. elim w.else-is-below.branch [
-            | else-is-below-via-then-is-below+then-is-below-2+else-is-transitive w' ↦ false≢true (w'.if-is-transitive.ensures ∙ u.0.2)
-            | else-is-below-via-then-is-below+else-is-below-2 w' ↦ false≢true (w'.if-is-below-2.ensures ∙ u.0.1)
-            | else-is-below-via-else-is-below w' ↦ false≢true (w'.if-is-below.ensures ∙ u.0.0)
+          (drawn_none L W (λ f x u. elim w.else-is_below.branch [
+            | else-is_below-via-then-is_below+then-is_below-2+else-is_transitive w' ↦ false≢true (w'.if-is_transitive.ensures ∙ u.0.2)
+            | else-is_below-via-then-is_below+else-is_below-2 w' ↦ false≢true (w'.if-is_below-2.ensures ∙ u.0.1)
+            | else-is_below-via-else-is_below w' ↦ false≢true (w'.if-is_below.ensures ∙ u.0.0)
           ]))
     ] in
     turns_more L W {P = ByRole v k first ps j} c.loop-t.invariant turn

@@ -15,7 +15,7 @@ pub loop-steps-preserved : goal.loop-steps-preserved
 loop-steps-preserved g c =
     ongoing_more (terms_of c.args.terms.now) g.K.GradeKind.kind g.met.K.GradeKind.lawful g.P.Pile.numbers c.args.c c.args.self.now c.args.pile.now c.requires.ready
     c.loop-steps.steps c.loop-steps.self c.loop-steps.pile c.loop-steps.invariant
-    c.in-default.field-0 c.work.new.self c.work.new.pile c.in-default.ensures.kept c.in-default.ensures.work
+    c.in_default.field-0 c.work.new.self c.work.new.pile c.in_default.ensures.kept c.in_default.ensures.work
 
 pub returns-in-None : goal.returns-in-None
 returns-in-None g c =

@@ -9,14 +9,14 @@ use Rattle.board.proofs.Beginning.{begun_none, begun_all, made_sane, not_in_orde
 use Rattle.board.proofs.board.OpenBoard.make.Goals as goal
 
 pub blank-board-requires : goal.blank-board-requires
-blank-board-requires g c = c.in-default.ensures.enough
+blank-board-requires g c = c.in_default.ensures.enough
 
 pub start-requires : goal.start-requires
 start-requires g c = record { begun = c.loop-a.invariant.0; left = omega (arith, ap length c.concepts-a-end.ensures) }
 
 pub loop-a-init : goal.loop-a-init
 loop-a-init g c =
-    let O = c.in-default.ensures in
+    let O = c.in_default.ensures in
     (begun_none (terms_of c.args.terms.now) g.K.GradeKind.kind g.P.Pile.numbers c.args.words.now c.blank-board.result c.args.pile.now c.blank-board.ensures.blank O.wide O.empty, kept_same)
 
 pub loop-a-preserved : goal.loop-a-preserved
@@ -55,5 +55,5 @@ returns g c =
         extent = K.frame.extent ∙ Z.extent;
         further = λ i h. let h' : room first.concepts first.roles ≤ i = subst₂ (λ n m. room n m ≤ i) K.frame.concepts K.frame.roles h in K.frame.further i h' ∙ Z.further i h';
       };
-      empty = λ e R. absurd (not_in_order v k (length c.args.words.now) (numbers c.args.pile.now) c.in-default.ensures R);
+      empty = λ e R. absurd (not_in_order v k (length c.args.words.now) (numbers c.args.pile.now) c.in_default.ensures R);
     }

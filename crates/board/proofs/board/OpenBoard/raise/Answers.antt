@@ -13,15 +13,15 @@ returns-then-new-old g c =
     let v = terms_of c.args.terms.now in
     let k = g.K.GradeKind.kind in
     let a = c.args.self.now in
-    let b = c.write-found.new.self in
+    let b = c.write_found.new.self in
     let f = c.args.fact in
     let held = g.P.Pile.numbers in
     let new : c.join-new.result ≡ k.join ((board_of a).found f) c.args.g = c.join-new.ensures ∙ ap (λ u. k.join u c.args.g) c.found-old.ensures in
     let wrote : Wrote (length v.concepts) v.roles f (k.join ((board_of a).found f) c.args.g) (board_of a) (board_of b) =
     subst (λ u. Wrote (length v.concepts) v.roles f u (board_of a) (board_of b)) new
-    (subst₂ (λ n m. Wrote n m f c.join-new.result (board_of a) (board_of b)) c.requires.ready.concepts c.requires.ready.roles c.write-found.ensures.wrote) in
+    (subst₂ (λ n m. Wrote n m f c.join-new.result (board_of a) (board_of b)) c.requires.ready.concepts c.requires.ready.roles c.write_found.ensures.wrote) in
     record {
-      kept = kept_framed c.write-found.ensures.frame c.call.ensures.kept;
+      kept = kept_framed c.write_found.ensures.frame c.call.ensures.kept;
       raises = raises_new v k g.met.K.GradeKind.lawful f c.args.g (moment_of held a c.args.pile.now) (moment_of held b c.args.pile.now) (moment_of held c.call.new.self c.call.new.pile)
           c.requires.within wrote (λ x. refl) (λ e. c.if-new-old.true (new ∙ e ∙ sym c.found-old.ensures)) c.call.ensures.called (seated v (well_formed c.args.terms.now));
     }

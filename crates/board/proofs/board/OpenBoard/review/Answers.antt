@@ -17,6 +17,6 @@ returns-in-Some g c =
           c.requires.ready.concepts c.requires.ready.roles c.queue.ensures.nudged c.requires.left c.in-Some.ensures;
     }
 
-pub returns-in-default : goal.returns-in-default
-returns-in-default g c =
-    record { kept = kept_same; rechecked = rechecked_quiet (terms_of c.args.terms.now) c.args.c (moment_of g.P.Pile.numbers c.args.self.now c.args.pile.now) c.requires.left c.in-default.ensures }
+pub returns-in_default : goal.returns-in_default
+returns-in_default g c =
+    record { kept = kept_same; rechecked = rechecked_quiet (terms_of c.args.terms.now) c.args.c (moment_of g.P.Pile.numbers c.args.self.now c.args.pile.now) c.requires.left c.in_default.ensures }

@@ -12,19 +12,19 @@ use Rattle.board.proofs.board.OpenBoard.step.Goals as goal
 
 pub work-requires : goal.work-requires
 work-requires g c =
-    let R = c.in-ok-admit.ensures in
-    let H = c.if-not-is-held.ensures.held refl in
+    let R = c.in_ok-admit.ensures in
+    let H = c.if-not-is_held.ensures.held refl in
     record { ready = R; left = omega (arith, R.concepts, H.0); held = H.1 }
 
-pub returns-in-err-admit : goal.returns-in-err-admit
-returns-in-err-admit g c =
-    let p = err_from_is_err_and c.from-residual.result c.from-residual.ensures.1 in
-    rw (p.1, p.2) (record { kept = kept_same; sane = λ S. S; stepped = (StepRejected.unready c.in-err-admit.ensures, refl, refl) })
+pub returns-in_err-admit : goal.returns-in_err-admit
+returns-in_err-admit g c =
+    let p = err_from_is_err_and c.from_residual.result c.from_residual.ensures.1 in
+    rw (p.1, p.2) (record { kept = kept_same; sane = λ S. S; stepped = (StepRejected.unready c.in_err-admit.ensures, refl, refl) })
 
-pub returns-then-not-is-held : goal.returns-then-not-is-held
-returns-then-not-is-held g c =
-    let R = c.in-ok-admit.ensures in
-    record { kept = kept_same; sane = λ S. S; stepped = (StepRejected.unfit_lease (R.concepts, R.roles) R.wide (c.if-not-is-held.ensures.free refl), refl, refl) }
+pub returns-then-not-is_held : goal.returns-then-not-is_held
+returns-then-not-is_held g c =
+    let R = c.in_ok-admit.ensures in
+    record { kept = kept_same; sane = λ S. S; stepped = (StepRejected.unfit_lease (R.concepts, R.roles) R.wide (c.if-not-is_held.ensures.free refl), refl, refl) }
 
 pub returns-in-Some : goal.returns-in-Some
 returns-in-Some g c =
@@ -34,7 +34,7 @@ returns-in-Some g c =
     let a = c.args.self.now in
     let A = moment_of numbers a c.args.pile.now in
     let B = moment_of numbers c.work.new.self c.work.new.pile in
-    let R = c.in-ok-admit.ensures in
+    let R = c.in_ok-admit.ensures in
     let D = c.in-Some.ensures.work in
     let to : Sane a.concepts a.roles k (board_of a) → Sane (length v.concepts) v.roles k (board_of a) = subst₂ (λ n m. Sane n m k (board_of a)) R.concepts R.roles in
     record {
@@ -45,10 +45,10 @@ returns-in-Some g c =
 
 pub returns-in-None : goal.returns-in-None
 returns-in-None g c =
-    let R = c.in-ok-admit.ensures in
+    let R = c.in_ok-admit.ensures in
     let W = c.in-None.ensures.work in
     record {
       kept = c.in-None.ensures.kept;
       sane = sane_is W.1 g.K.GradeKind.kind;
-      stepped = (StepRejected.nothing_waits (R.concepts, R.roles) R.wide (c.if-not-is-held.ensures.held refl) W.0, W.1, W.2);
+      stepped = (StepRejected.nothing_waits (R.concepts, R.roles) R.wide (c.if-not-is_held.ensures.held refl) W.0, W.1, W.2);
     }

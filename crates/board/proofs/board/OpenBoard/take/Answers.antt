@@ -12,9 +12,9 @@ use Rattle.board.proofs.board.OpenBoard.take.Goals.{else-concept-self-via-then-c
 pub returns-then-size-self : goal.returns-then-size-self
 returns-then-size-self g c = record { kept = kept_same; sane = λ S. S; taken = (TakeRejected.small_pile (omega arith), refl, λ x. refl, λ _. refl) }
 
-pub returns-in-default : goal.returns-in-default
-returns-in-default g c =
-    let D = c.in-default.ensures.set in
+pub returns-in_default : goal.returns-in_default
+returns-in_default g c =
+    let D = c.in_default.ensures.set in
     record { kept = record { frame = framed_same; size = D.0 }; sane = λ S. S; taken = (TakeRejected.empty_pile (omega arith) D.1, refl, D.2, λ e. let z : ◌≡◌ {A = ℕ} 0 1 = cc in absurd (omega arith)) }
 
 pub returns : goal.returns

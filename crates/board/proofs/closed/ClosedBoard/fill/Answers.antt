@@ -12,36 +12,36 @@ use Rattle.terms.proofs.Namings.{named_is, is_named_lem}
 use Rattle.board.proofs.Questioned.{settled_of, asked_list, list_truth, front_of}
 use Rattle.board.proofs.closed.ClosedBoard.fill.Goals as goal
 
-pub returns-in-err-settled : goal.returns-in-err-settled
-returns-in-err-settled g c =
-    let p = err_from_is_err_and c.from-residual.result c.from-residual.ensures.1 in
-    rw (p.1, p.2) (record { answer = unsettled refl c.in-err-settled.ensures; truth = tt })
+pub returns-in_err-settled : goal.returns-in_err-settled
+returns-in_err-settled g c =
+    let p = err_from_is_err_and c.from_residual.result c.from_residual.ensures.1 in
+    rw (p.1, p.2) (record { answer = unsettled refl c.in_err-settled.ensures; truth = tt })
 
-pub returns-then-not-is-named : goal.returns-then-not-is-named
-returns-then-not-is-named g c =
+pub returns-then-not-is_named : goal.returns-then-not-is_named
+returns-then-not-is_named g c =
     let v = terms_of c.args.terms.now in
-    let s = settled_of c.in-ok-settled.was c.settled.ensures in
-    record { answer = no_concept refl s (λ i. both_ways _ (sym c.is_named_lem.ensures ∙ c.if-not-is-named.true) (is_named_lem v c.args.at.concept i)); truth = tt }
+    let s = settled_of c.in_ok-settled.was c.settled.ensures in
+    record { answer = no_concept refl s (λ i. both_ways _ (sym c.is_named.ensures ∙ c.if-not-is_named.true) (is_named_lem v c.args.at.concept i)); truth = tt }
 
 pub returns-then-at-points : goal.returns-then-at-points
 returns-then-at-points g c =
     let v = terms_of c.args.terms.now in
-    let s = settled_of c.in-ok-settled.was c.settled.ensures in
-    let i = named_is v c.args.at.concept (sym c.if-not-is-named.ensures) in
+    let s = settled_of c.in_ok-settled.was c.settled.ensures in
+    let i = named_is v c.args.at.concept (sym c.if-not-is_named.ensures) in
     record { answer = no_point refl s i (subst (λ (m : ℕ). m ≤ c.args.at.point) c.points.ensures c.if-at-points.true); truth = tt }
 
-pub count-wanted-count-requires : goal.count-wanted-count-requires
-count-wanted-count-requires g c =
+pub count_wanted-count-requires : goal.count_wanted-count-requires
+count_wanted-count-requires g c =
     let v = terms_of c.args.terms.now in
-    let s = settled_of c.in-ok-settled.was c.settled.ensures in
-    let i = named_is v c.args.at.concept (sym c.if-not-is-named.ensures) in
+    let s = settled_of c.in_ok-settled.was c.settled.ensures in
+    let i = named_is v c.args.at.concept (sym c.if-not-is_named.ensures) in
     omega (arith, i.0, s.0.0, c.reader-reader.ensures.concepts)
 
 pub returns-then-count-list : goal.returns-then-count-list
 returns-then-count-list g c =
     let v = terms_of c.args.terms.now in
-    let s = settled_of c.in-ok-settled.was c.settled.ensures in
-    let i = named_is v c.args.at.concept (sym c.if-not-is-named.ensures) in
+    let s = settled_of c.in_ok-settled.was c.settled.ensures in
+    let i = named_is v c.args.at.concept (sym c.if-not-is_named.ensures) in
     let k = g.K.GradeKind.kind in
     let b = closed_of c.args.self.now in
     let r = c.reader-reader.result in
@@ -49,20 +49,20 @@ returns-then-count-list g c =
     let xs : List ℕ = picked (wanted_test c.args.question r.concepts v k (read_of r) c.args.at.point c.args.at.concept) r.concepts in
     let is : ListOf (Wanted c.args.question v (FoundUnder k b c.args.at.point) c.args.at.concept) xs = asked_list c.args.question v k (read_of r) b c.args.at.point c.args.at.concept r.concepts c.reader-reader.ensures.view (n ∙ s.0.0) in
     let point : c.args.at.point < k.points = subst (λ (m : ℕ). c.args.at.point < m) c.points.ensures c.if-at-points.false in
-    record { answer = short_list refl s i point xs is (subst (λ (m : ℕ). length c.args.list.now < m) c.count-wanted-count.ensures c.if-count-list.true); truth = tt }
+    record { answer = short_list refl s i point xs is (subst (λ (m : ℕ). length c.args.list.now < m) c.count_wanted-count.ensures c.if-count-list.true); truth = tt }
 
-pub write-wanted-requires : goal.write-wanted-requires
-write-wanted-requires g c =
+pub write_wanted-requires : goal.write_wanted-requires
+write_wanted-requires g c =
     let v = terms_of c.args.terms.now in
-    let s = settled_of c.in-ok-settled.was c.settled.ensures in
-    let i = named_is v c.args.at.concept (sym c.if-not-is-named.ensures) in
-    record { within = omega (arith, i.0, s.0.0, c.reader-reader.ensures.concepts); room = subst (λ (m : ℕ). m ≤ length c.args.list.now) c.count-wanted-count.ensures c.if-count-list.false }
+    let s = settled_of c.in_ok-settled.was c.settled.ensures in
+    let i = named_is v c.args.at.concept (sym c.if-not-is_named.ensures) in
+    record { within = omega (arith, i.0, s.0.0, c.reader-reader.ensures.concepts); room = subst (λ (m : ℕ). m ≤ length c.args.list.now) c.count_wanted-count.ensures c.if-count-list.false }
 
 pub returns : goal.returns
 returns g c =
     let v = terms_of c.args.terms.now in
-    let s = settled_of c.in-ok-settled.was c.settled.ensures in
-    let i = named_is v c.args.at.concept (sym c.if-not-is-named.ensures) in
+    let s = settled_of c.in_ok-settled.was c.settled.ensures in
+    let i = named_is v c.args.at.concept (sym c.if-not-is_named.ensures) in
     let k = g.K.GradeKind.kind in
     let b = closed_of c.args.self.now in
     let r = c.reader-reader.result in
@@ -70,11 +70,11 @@ returns g c =
     let xs : List ℕ = picked (wanted_test c.args.question r.concepts v k (read_of r) c.args.at.point c.args.at.concept) r.concepts in
     let is : ListOf (Wanted c.args.question v (FoundUnder k b c.args.at.point) c.args.at.concept) xs = asked_list c.args.question v k (read_of r) b c.args.at.point c.args.at.concept r.concepts c.reader-reader.ensures.view (n ∙ s.0.0) in
     let point : c.args.at.point < k.points = subst (λ (m : ℕ). c.args.at.point < m) c.points.ensures c.if-at-points.false in
-    let few : length xs ≤ length c.args.list.now = subst (λ (m : ℕ). m ≤ length c.args.list.now) c.count-wanted-count.ensures c.if-count-list.false in
-    let count : c.count-wanted-count.result ≡ length xs = c.count-wanted-count.ensures in
-    let front = front_of xs (drop (length xs) c.args.list.now) c.write-wanted.new.list c.write-wanted.ensures in
+    let few : length xs ≤ length c.args.list.now = subst (λ (m : ℕ). m ≤ length c.args.list.now) c.count_wanted-count.ensures c.if-count-list.false in
+    let count : c.count_wanted-count.result ≡ length xs = c.count_wanted-count.ensures in
+    let front = front_of xs (drop (length xs) c.args.list.now) c.write_wanted.new.list c.write_wanted.ensures in
     rw count (record {
-      answer = answer s i point xs is c.write-wanted.ensures few;
+      answer = answer s i point xs is c.write_wanted.ensures few;
       truth = subst (λ (ys : List ℕ). ListTruth c.args.question v k b c.args.at.concept c.args.at.point ys) (sym front)
           (list_truth k g.met.K.GradeKind.lawful v (well_formed c.args.terms.now) b s.1 c.args.question c.args.at.concept c.args.at.point xs i point is);
     })

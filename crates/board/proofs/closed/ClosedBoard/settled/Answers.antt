@@ -6,8 +6,8 @@ use Rattle.board.specs.Questions.{SettledOr, settled, other_terms, job_waits}
 use Rattle.board.proofs.closed.ClosedBoard.settled.Goals as goal
 use Rattle.board.proofs.closed.ClosedBoard.settled.Goals.{then-concepts-self-via-then-concepts-self, then-concepts-self-via-else-concepts-self+then-roles-self}
 
-pub any-waits-requires : goal.any-waits-requires
-any-waits-requires g c = record { concepts = c.reader.ensures.concepts ∙ sym c.if-concepts-self.false ∙ ap length c.concepts.ensures; roles = c.reader.ensures.roles ∙ sym c.if-roles-self.false ∙ c.roles.ensures }
+pub any_waits-requires : goal.any_waits-requires
+any_waits-requires g c = record { concepts = c.reader.ensures.concepts ∙ sym c.if-concepts-self.false ∙ ap length c.concepts.ensures; roles = c.reader.ensures.roles ∙ sym c.if-roles-self.false ∙ c.roles.ensures }
 
 pub returns-then-concepts-self : goal.returns-then-concepts-self
 returns-then-concepts-self g c = elim c.then-concepts-self.branch [
@@ -15,16 +15,16 @@ returns-then-concepts-self g c = elim c.then-concepts-self.branch [
   | then-concepts-self-via-else-concepts-self+then-roles-self w ↦ other_terms (λ s. w.if-roles-self.true (w.roles.ensures ∙ sym s.1))
 ]
 
-pub returns-then-any-waits : goal.returns-then-any-waits
-returns-then-any-waits g c =
+pub returns-then-any_waits : goal.returns-then-any_waits
+returns-then-any_waits g c =
     let v = terms_of c.args.terms.now in
     job_waits (sym c.if-concepts-self.false ∙ ap length c.concepts.ensures, sym c.if-roles-self.false ∙ c.roles.ensures)
-    (subst (λ (b : Board). Quiet v b → ⊥) c.reader.ensures.view (c.any-waits.ensures.waits c.if-any-waits.true))
+    (subst (λ (b : Board). Quiet v b → ⊥) c.reader.ensures.view (c.any_waits.ensures.waits c.if-any_waits.true))
 
 pub returns : goal.returns
 returns g c =
     let v = terms_of c.args.terms.now in
     settled (
       (sym c.if-concepts-self.false ∙ ap length c.concepts.ensures, sym c.if-roles-self.false ∙ c.roles.ensures),
-      subst (λ (b : Board). Quiet v b) c.reader.ensures.view (c.any-waits.ensures.quiet c.if-any-waits.false),
+      subst (λ (b : Board). Quiet v b) c.reader.ensures.view (c.any_waits.ensures.quiet c.if-any_waits.false),
     )

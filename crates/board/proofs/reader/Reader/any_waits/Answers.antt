@@ -10,12 +10,12 @@ either : (b : Bool) (A : Type 0) → (b ≡ true → A) → (b ≡ false → A) 
 either true A t f = t refl
 either false A t f = f refl
 
-pub returns-else-any-waits-where : goal.returns-else-any-waits-where
-returns-else-any-waits-where c =
+pub returns-else-any_waits_where : goal.returns-else-any_waits_where
+returns-else-any_waits_where c =
     let v = terms_of c.args.terms.now in
     let b = read_of c.args.self.now in
-    let busy = c.if-any-waits-where.ensures.quiet refl in
-    let rest = c.any-waits-where-else-any-waits-where.ensures in
+    let busy = c.if-any_waits_where.ensures.quiet refl in
+    let rest = c.any_waits_where-else-any_waits_where.ensures in
     record {
       waits = rest.waits;
       quiet = λ e j x at.

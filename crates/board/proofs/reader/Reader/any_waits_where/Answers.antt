@@ -5,7 +5,7 @@ use Rattle.terms.specs.Views.{terms_of}
 use Rattle.saturation.specs.Boards.{QuietAt}
 use Rattle.board.specs.Views.{read_of, is_idle}
 use Rattle.board.proofs.reader.Reader.any_waits_where.Goals as goal
-use Rattle.board.proofs.reader.Reader.any_waits_where.Goals.{then-is-idle-idle+in-default, else-is-idle-idle}
+use Rattle.board.proofs.reader.Reader.any_waits_where.Goals.{then-is_idle-idle+in_default, else-is_idle-idle}
 
 differ : (x y : Bool) → beq x y ≡ false → x ≡ y → ⊥
 differ true true h e = false≢true (sym h)
@@ -18,9 +18,9 @@ loop-c-preserved c =
     let v = terms_of c.args.terms.now in
     let b = read_of c.args.self.now in
     let here : is_idle (b.state c.loop-c.c) ≡ c.args.idle → QuietAt v b c.loop-c.c =
-    elim c.if-is-idle-idle.branch [
-      | then-is-idle-idle+in-default w ↦ λ _. w.in-default.ensures
-      | else-is-idle-idle w ↦ λ e. absurd (differ c.is-idle.result c.args.idle w.if-is-idle-idle.false (c.is-idle.ensures ∙ e))
+    elim c.if-is_idle-idle.branch [
+      | then-is_idle-idle+in_default w ↦ λ _. w.in_default.ensures
+      | else-is_idle-idle w ↦ λ e. absurd (differ c.is_idle.result c.args.idle w.if-is_idle-idle.false (c.is_idle.ensures ∙ e))
     ] in
     below_more (λ x. is_idle (b.state x) ≡ c.args.idle → QuietAt v b x) c.loop-c.c c.loop-c.invariant here
 

@@ -9,4 +9,4 @@ pub loop-s-preserved : goal.loop-s-preserved
 loop-s-preserved c =
     let b = read_of c.args.self.now in
     below_more (λ s. NoneBelow b (Implications s c.args.c) (length (terms_of c.args.terms.now).concepts)) c.loop-s.s c.loop-s.invariant
-    (subst (λ n. NoneBelow b (Implications c.loop-s.s c.args.c) n) c.requires.fitted.concepts c.in-default.ensures)
+    (subst (λ n. NoneBelow b (Implications c.loop-s.s c.args.c) n) c.requires.fitted.concepts c.in_default.ensures)
