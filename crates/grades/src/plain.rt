@@ -1,8 +1,6 @@
 //! One point: something holds, or it does not.
 ghost use Rattle.grades.specs.Plain.{plain};
-ghost use Rattle.std.specs.Prelude.{refl};
-ghost use Rattle.std.proofs.Common.{arith};
-ghost use Rattle.std.proofs.lemmas.Bool.Decides.{nat_tests};
+ghost use Rattle.grades.specs.Laws.{plain_lawful};
 
 use crate::kind::GradeKind;
 
@@ -13,22 +11,7 @@ pub struct Plain;
 impl GradeKind for Plain {
     ghost kind = { plain };
 
-    ghost lawful = { record {
-      some_point = omega arith;
-      few_points = omega arith;
-      few_codes = omega arith;
-      all_code = omega arith;
-      none_code = omega arith;
-      all_holds = λ p h. Prim.grind (arith, nat_tests);
-      none_holds = λ p. refl;
-      join_code = λ a b. Prim.grind (arith, nat_tests);
-      join_holds = λ a b p h. Prim.grind (arith, nat_tests);
-      meet_code = λ a b. Prim.grind (arith, nat_tests);
-      meet_holds = λ a b p h. Prim.grind (arith, nat_tests);
-      same = λ a b ha hb h. let z = h 0 (omega arith) in Prim.grind (arith, nat_tests);
-      foreign = λ a p h. Prim.grind (arith, nat_tests);
-      beyond = λ a p h. Prim.grind (arith, nat_tests);
-    } };
+    ghost lawful = { plain_lawful };
 
     fn points() -> u8 {
         1

@@ -1,9 +1,6 @@
 //! Releases: what holds from one release on.
 ghost use Rattle.grades.specs.Releases.{releases};
-ghost use Rattle.std.proofs.Common.{inl, inr, arith};
-ghost use Rattle.std.proofs.lemmas.Bool.{cases_order};
-ghost use Rattle.std.proofs.lemmas.Bool.Decides.{nat_tests};
-ghost use Rattle.grades.specs.ReleasesKindLemmas.{apart};
+ghost use Rattle.grades.specs.Laws.{releases_lawful};
 
 use crate::kind::GradeKind;
 
@@ -14,27 +11,7 @@ pub struct Releases;
 impl GradeKind for Releases {
     ghost kind = { releases };
 
-    ghost lawful = { record {
-      some_point = omega arith;
-      few_points = omega arith;
-      few_codes = omega arith;
-      all_code = omega arith;
-      none_code = omega arith;
-      all_holds = λ p h. Prim.grind (arith, nat_tests);
-      none_holds = λ p. Prim.grind (arith, nat_tests);
-      join_code = λ a b. omega arith;
-      join_holds = λ a b p h. Prim.grind (arith, nat_tests);
-      meet_code = λ a b. omega arith;
-      meet_holds = λ a b p h. Prim.grind (arith, nat_tests);
-      same = λ a b ha hb h.
-          elim (cases_order a b) [
-            | inl e ↦ e
-            | inr (inl l) ↦ absurd (apart a b l hb (h a (omega arith)))
-            | inr (inr l) ↦ absurd (apart b a l ha (let q = h b (omega arith) in cc))
-          ];
-      foreign = λ a p h. Prim.grind (arith, nat_tests);
-      beyond = λ a p h. Prim.grind (arith, nat_tests);
-    } };
+    ghost lawful = { releases_lawful };
 
     fn points() -> u8 {
         64

@@ -1,8 +1,6 @@
 //! Views: what holds in any set of sixteen views.
 ghost use Rattle.grades.specs.Views.{views};
-ghost use Rattle.std.specs.Prelude.{refl};
-ghost use Rattle.std.proofs.Common.{arith};
-ghost use Rattle.grades.specs.Bits.{all_bits, none_bits, join_lt, join_bits, meet_lt, meet_bits, same_bits, foreign_bits, beyond_bits};
+ghost use Rattle.grades.specs.Laws.{views_lawful};
 
 use crate::kind::GradeKind;
 
@@ -13,22 +11,7 @@ pub struct Views;
 impl GradeKind for Views {
     ghost kind = { views };
 
-    ghost lawful = { record {
-      some_point = omega arith;
-      few_points = omega arith;
-      few_codes = omega arith;
-      all_code = omega arith;
-      none_code = omega arith;
-      all_holds = all_bits;
-      none_holds = λ p. none_bits 0 p refl;
-      join_code = join_lt;
-      join_holds = join_bits;
-      meet_code = meet_lt;
-      meet_holds = meet_bits;
-      same = same_bits;
-      foreign = foreign_bits;
-      beyond = beyond_bits;
-    } };
+    ghost lawful = { views_lawful };
 
     fn points() -> u8 {
         16

@@ -9,8 +9,8 @@ use Rattle.sharing.proofs.+work.Goals as goal
 pub returns-then-workers-eq0 : goal.returns-then-workers-eq0
 returns-then-workers-eq0 g t c = no_turns (terms_of c.args.terms.now) g.K.GradeKind.kind g.P.Pile.numbers c.args.board.now c.args.pile.now c.requires
 
-pub give-back-requires : goal.give-back-requires
-give-back-requires g t c =
+pub give_back-requires : goal.give_back-requires
+give_back-requires g t c =
     let v = terms_of c.args.terms.now in
     let k = g.K.GradeKind.kind in
     let numbers = g.P.Pile.numbers in
@@ -34,5 +34,5 @@ returns-in-Ok g t c =
     let numbers = g.P.Pile.numbers in
     let step : TookTurns v k numbers c.work.new.board c.work.new.pile c.step.new.self c.step.new.pile =
     stepped v k numbers c.in-Ok.lease c.work.new.board c.work.new.pile c.step.new.self c.step.new.pile c.step.result c.work.ensures.onward.going c.step.ensures.kept c.step.ensures.sane c.step.ensures.stepped in
-    whole_turn v k numbers c.in-Ok.lease.concept c.args.board.now c.args.pile.now c.take.new.self c.take.new.pile c.step.new.self c.step.new.pile c.give-back.new.board c.give-back.new.pile
-    c.requires c.in-Ok.ensures.kept c.in-Ok.ensures.sane c.in-Ok.ensures.taken.1 (turns_then v k numbers c.work.ensures step) c.give-back.ensures
+    whole_turn v k numbers c.in-Ok.lease.concept c.args.board.now c.args.pile.now c.take.new.self c.take.new.pile c.step.new.self c.step.new.pile c.give_back.new.board c.give_back.new.pile
+    c.requires c.in-Ok.ensures.kept c.in-Ok.ensures.sane c.in-Ok.ensures.taken.1 (turns_then v k numbers c.work.ensures step) c.give_back.ensures

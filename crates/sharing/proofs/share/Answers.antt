@@ -15,14 +15,14 @@ returns-in-Err g c =
 
 pub work-requires : goal.work-requires
 work-requires g c =
-    let order = c.in-default.ensures in
+    let order = c.in_default.ensures in
     let made = c.make-board.ensures.made order in
     let wide : c.make-board.result.concepts ≤ (g.P.Pile.numbers c.make-board.new.pile).size = omega (arith, made.concepts, c.make-board.ensures.size, order.wide) in
     made_goes g.K.GradeKind.kind g.met.K.GradeKind.lawful (terms_of c.args.terms.now) (well_formed c.args.terms.now) g.P.Pile.numbers c.args.words.now c.make-board.result c.make-board.new.pile made wide
 
 pub returns : goal.returns
 returns g c =
-    let order = c.in-default.ensures in
+    let order = c.in_default.ensures in
     let made = c.make-board.ensures.made order in
     record {
       lent = c.close-2.ensures.lent ∙ c.run.ensures.kept.frame.lent ∙ c.work.ensures.onward.kept.frame.lent ∙ c.make-board.ensures.lent;

@@ -4,8 +4,8 @@ use Rattle.workers.proofs.work_one.Goals as goal
 
 pub returns : goal.returns
 returns g c =
-    on_and_on (terms_of c.args.terms.now) g.K.GradeKind.kind g.P.Pile.numbers c.args.board.now c.args.pile.now c.step-once.new.board c.step-once.new.pile c.give-back.new.board c.give-back.new.pile
-    (on_and_on (terms_of c.args.terms.now) g.K.GradeKind.kind g.P.Pile.numbers c.args.board.now c.args.pile.now c.take-one.new.board c.take-one.new.pile c.step-once.new.board c.step-once.new.pile
-    c.take-one.ensures
-    c.step-once.ensures)
-    c.give-back.ensures
+    on_and_on (terms_of c.args.terms.now) g.K.GradeKind.kind g.P.Pile.numbers c.args.board.now c.args.pile.now c.step_once.new.board c.step_once.new.pile c.give_back.new.board c.give_back.new.pile
+    (on_and_on (terms_of c.args.terms.now) g.K.GradeKind.kind g.P.Pile.numbers c.args.board.now c.args.pile.now c.take_one.new.board c.take_one.new.pile c.step_once.new.board c.step_once.new.pile
+    c.take_one.ensures
+    c.step_once.ensures)
+    c.give_back.ensures

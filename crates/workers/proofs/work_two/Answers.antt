@@ -4,10 +4,10 @@ use Rattle.workers.proofs.work_two.Goals as goal
 
 pub returns : goal.returns
 returns g c =
-    on_and_on (terms_of c.args.terms.now) g.K.GradeKind.kind g.P.Pile.numbers c.args.board.now c.args.pile.now c.step-once.new.board c.step-once.new.pile c.give-back-first.new.board c.give-back-first.new.pile
-    (on_and_on (terms_of c.args.terms.now) g.K.GradeKind.kind g.P.Pile.numbers c.args.board.now c.args.pile.now c.work-one-second.new.board c.work-one-second.new.pile c.step-once.new.board c.step-once.new.pile
-    (on_and_on (terms_of c.args.terms.now) g.K.GradeKind.kind g.P.Pile.numbers c.args.board.now c.args.pile.now c.take-one.new.board c.take-one.new.pile c.work-one-second.new.board c.work-one-second.new.pile
-    c.take-one.ensures
-    c.work-one-second.ensures)
-    c.step-once.ensures)
-    c.give-back-first.ensures
+    on_and_on (terms_of c.args.terms.now) g.K.GradeKind.kind g.P.Pile.numbers c.args.board.now c.args.pile.now c.step_once.new.board c.step_once.new.pile c.give_back-first.new.board c.give_back-first.new.pile
+    (on_and_on (terms_of c.args.terms.now) g.K.GradeKind.kind g.P.Pile.numbers c.args.board.now c.args.pile.now c.work_one-second.new.board c.work_one-second.new.pile c.step_once.new.board c.step_once.new.pile
+    (on_and_on (terms_of c.args.terms.now) g.K.GradeKind.kind g.P.Pile.numbers c.args.board.now c.args.pile.now c.take_one.new.board c.take_one.new.pile c.work_one-second.new.board c.work_one-second.new.pile
+    c.take_one.ensures
+    c.work_one-second.ensures)
+    c.step_once.ensures)
+    c.give_back-first.ensures

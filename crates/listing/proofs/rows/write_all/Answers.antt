@@ -12,8 +12,8 @@ room n a page l h = let m = mul-le-mul_left (19 * n) l in let e = mul-add (19 * 
 pub loop-a-init : goal.loop-a-init
 loop-a-init g c = wrote_same [] [] 0 0 0 0 (19 * c.args.concepts * 0) c.args.page.now c.args.page.now c.args.page.now refl refl refl (omega arith) (wrote_none 0 c.args.page.now (omega arith))
 
-pub write-rows-filled-requires : goal.write-rows-filled-requires
-write-rows-filled-requires g c =
+pub write_rows-filled-requires : goal.write_rows-filled-requires
+write_rows-filled-requires g c =
     let h = room c.args.concepts c.loop-a.a c.args.page.now (omega arith) c.requires.room in
     record { settled = c.requires.settled; room = omega (arith, c.loop-a.invariant.1, c.loop-a.invariant.2, c.loop-a.auto.page) }
 
@@ -23,7 +23,7 @@ loop-a-preserved g c =
     let n = c.args.concepts in
     let a = c.loop-a.a in
     let h = room n a c.args.page.now (omega arith) c.requires.room in
-    wrote_same (all_rows grade n (a + 1)) (all_rows grade n a ++ rows_up_to grade a n) 0 c.write-rows-filled.result c.write-rows-filled.result
-    (19 * n * a + 19 * n) (19 * n * (a + 1)) c.args.page.now c.write-rows-filled.new.page c.write-rows-filled.new.page (rows_next grade n a) refl refl (let e = mul-add (19 * n) a 1 in omega arith)
-    (wrote_more (all_rows grade n a) (rows_up_to grade a n) 0 c.loop-a.filled c.write-rows-filled.result (19 * n * a) (19 * n) c.args.page.now c.loop-a.page c.write-rows-filled.new.page
-    (omega arith) c.loop-a.invariant c.write-rows-filled.ensures)
+    wrote_same (all_rows grade n (a + 1)) (all_rows grade n a ++ rows_up_to grade a n) 0 c.write_rows-filled.result c.write_rows-filled.result
+    (19 * n * a + 19 * n) (19 * n * (a + 1)) c.args.page.now c.write_rows-filled.new.page c.write_rows-filled.new.page (rows_next grade n a) refl refl (let e = mul-add (19 * n) a 1 in omega arith)
+    (wrote_more (all_rows grade n a) (rows_up_to grade a n) 0 c.loop-a.filled c.write_rows-filled.result (19 * n * a) (19 * n) c.args.page.now c.loop-a.page c.write_rows-filled.new.page
+    (omega arith) c.loop-a.invariant c.write_rows-filled.ensures)

@@ -16,18 +16,18 @@ returns-in-Err c =
     let room : room_of c.empty-terms.result ≡ lists = ap₂ room_for (ap length c.empty-terms.ensures.concepts.0) (ap length c.empty-terms.ensures.inclusions.0) in
     record { told = Told.no_sheet refl c.if-text-gt4000.false (subst (λ (m : Room). sheet_of m c.args.text.now ≡ Err c.in-Err.fault) room (sym c.read.ensures.result ∙ c.in-Err.is)); fits = tt }
 
-pub list-terms-requires : goal.list-terms-requires
-list-terms-requires c =
+pub list_terms-requires : goal.list_terms-requires
+list_terms-requires c =
     let t = c.read.new.terms in
-    let long : length t.concepts.now ≡ 40 = c.in-default.ensures.terms.1.long_concepts ∙ ap length c.empty-terms.ensures.concepts.0 in
+    let long : length t.concepts.now ≡ 40 = c.in_default.ensures.terms.1.long_concepts ∙ ap length c.empty-terms.ensures.concepts.0 in
     record { few = omega (arith, length-take t.concept_count t.concepts.now); room = omega (arith, c.told-page) }
 
 pub returns-in-Ok : goal.returns-in-Ok
 returns-in-Ok c =
     let room : room_of c.empty-terms.result ≡ lists = ap₂ room_for (ap length c.empty-terms.ensures.concepts.0) (ap length c.empty-terms.ensures.inclusions.0) in
-    record { told = Told.listed c.if-text-gt4000.false (subst (λ (m : Room). ReadAs m c.args.text.now c.in-default.field-0 (terms_of c.read.new.terms)) room c.in-default.ensures.law) c.in-Ok.ensures.listed; fits = c.in-Ok.ensures.fits }
+    record { told = Told.listed c.if-text-gt4000.false (subst (λ (m : Room). ReadAs m c.args.text.now c.in_default.field-0 (terms_of c.read.new.terms)) room c.in_default.ensures.law) c.in-Ok.ensures.listed; fits = c.in-Ok.ensures.fits }
 
-pub returns-in-Err-list-terms : goal.returns-in-Err-list-terms
-returns-in-Err-list-terms c =
+pub returns-in-Err-list_terms : goal.returns-in-Err-list_terms
+returns-in-Err-list_terms c =
     let room : room_of c.empty-terms.result ≡ lists = ap₂ room_for (ap length c.empty-terms.ensures.concepts.0) (ap length c.empty-terms.ensures.inclusions.0) in
-    record { told = Told.no_board c.if-text-gt4000.false (subst (λ (m : Room). ReadAs m c.args.text.now c.in-default.field-0 (terms_of c.read.new.terms)) room c.in-default.ensures.law) c.in-Err-list-terms.ensures.listed; fits = tt }
+    record { told = Told.no_board c.if-text-gt4000.false (subst (λ (m : Room). ReadAs m c.args.text.now c.in_default.field-0 (terms_of c.read.new.terms)) room c.in_default.ensures.law) c.in-Err-list_terms.ensures.listed; fits = tt }

@@ -9,17 +9,17 @@ use Rattle.listing.specs.Rows.{code_to_list, all_rows}
 use Rattle.listing.proofs.Ending.{truly_listed, page_room, page_few, no_board, board_listed}
 use Rattle.listing.proofs.text.list_terms.Goals as goal
 
-pub returns-in-err-check : goal.returns-in-err-check
-returns-in-err-check g c =
-    let p = err_from_is_err_and c.from-residual.result c.from-residual.ensures.1 in
+pub returns-in_err-check : goal.returns-in_err-check
+returns-in_err-check g c =
+    let p = err_from_is_err_and c.from_residual.result c.from_residual.ensures.1 in
     rw (p.1, p.2) (record {
       listed = no_board (terms_of c.args.terms.now) g.K.GradeKind.kind c.args.page.now 17640 (in_ring c.new-ring.result) _ refl
-          (omega (arith, c.requires.few, c.new-ring.ensures.size)) c.new-ring.ensures.none c.in-err-check.ensures;
+          (omega (arith, c.requires.few, c.new-ring.ensures.size)) c.new-ring.ensures.none c.in_err-check.ensures;
       fits = tt;
     })
 
-pub write-all-requires : goal.write-all-requires
-write-all-requires g c =
+pub write_all-requires : goal.write_all-requires
+write_all-requires g c =
     record {
       settled = c.classify-board.ensures.settled;
       room = page_room (length c.concepts.result.now) c.args.page.now (omega (arith, ap length c.concepts.ensures, c.requires.few)) c.requires.room;
@@ -31,12 +31,12 @@ returns g c =
     let k = g.K.GradeKind.kind in
     let b = closed_of c.classify-board.result in
     let n = length c.concepts.result.now in
-    let order = c.in-ok-check.ensures in
+    let order = c.in_ok-check.ensures in
     let h = c.classify-board.ensures.history in
     let small : n ≤ 40 = omega (arith, ap length c.concepts.ensures, c.requires.few) in
     let few = page_few n small in
     record {
-      listed = board_listed v k 17640 _ c.write-all.result (all_rows (code_to_list v k b) n n) c.args.page.now c.write-all.new.page refl order.coded order.enough
-          (truly_listed k g.met.K.GradeKind.lawful v (well_formed c.args.terms.now) b h.1 h.0 h.2 c.classify-board.ensures.settled.1 n (ap length c.concepts.ensures)) c.write-all.ensures;
-      fits = omega (arith, c.write-all.ensures.1, c.write-all.ensures.2);
+      listed = board_listed v k 17640 _ c.write_all.result (all_rows (code_to_list v k b) n n) c.args.page.now c.write_all.new.page refl order.coded order.enough
+          (truly_listed k g.met.K.GradeKind.lawful v (well_formed c.args.terms.now) b h.1 h.0 h.2 c.classify-board.ensures.settled.1 n (ap length c.concepts.ensures)) c.write_all.ensures;
+      fits = omega (arith, c.write_all.ensures.1, c.write_all.ensures.2);
     }
