@@ -1,5 +1,5 @@
 -- On a sane board, doing a job is a step as it is stated, and leaves the board sane.
-use Rattle.std.proofs.Common.{◌≡◌, ℕ, ◌<◌, true, ◌⊎◌, length, sym, refl, ap, ◌∙◌, subst, inl, inr, ⊎_elim, arith}
+use Rattle.std.proofs.Common.{◌≡◌, ℕ, ◌<◌, true, ◌⊎◌, length, sym, ap, ◌∙◌, subst, inl, inr, ⊎_elim, arith}
 use Rattle.std.proofs.lemmas.Bool.{cases_eq}
 use Rattle.grades.specs.Kinds.{Kind, Lawful}
 use Rattle.terms.specs.Vocabularies.{Vocabulary}

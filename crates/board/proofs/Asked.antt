@@ -1,14 +1,14 @@
 -- What the tests pick is the ascending list of exactly the mates or the parents.
-use Rattle.std.proofs.Common.{◌≡◌, ℕ, zero, suc, ◌+◌, ◌<◌, ◌≤◌, Bool, true, false, cond, not, ◌&&◌, eqb, ◌⊎◌, List, [], ◌∷◌, ◌++◌, length, sym, refl, ap, ◌∙◌, subst, inl, inr, arith}
+use Rattle.std.proofs.Common.{◌≡◌, ℕ, zero, suc, ◌<◌, Bool, true, false, cond, not, ◌&&◌, eqb, List, [], ◌∷◌, ◌++◌, length, sym, refl, ap, ◌∙◌, subst, inl, inr, arith}
 use mathlib.Core.List.Memᴰ
 use mathlib.Core.List.{Memᴰ}
 use Rattle.std.proofs.lemmas.Bool.{and_parts, and_from, cases_eq, cases_lt, both_ways, eqb-true, eq-eqb, not-true}
 use Rattle.grades.specs.Kinds.{Kind}
-use Rattle.terms.specs.Vocabularies.{Vocabulary, Named, is_named}
+use Rattle.terms.specs.Vocabularies.{Vocabulary, is_named}
 use Rattle.terms.proofs.Namings.{named_is, is_named_lem}
 use Rattle.saturation.specs.Boards.{Board}
 use Rattle.saturation.specs.Answers.{FoundUnder, Mate, Between, Parent, Ascending, ListOf}
-use Rattle.board.specs.Asking.{every, picked, under_test, mate_test, between_test, lowest_test, nothing_between_test, parent_test}
+use Rattle.board.specs.Asking.{picked, under_test, mate_test, between_test, lowest_test, nothing_between_test, parent_test}
 use Rattle.board.proofs.Picking.{every_at, every_of}
 
 -- ---- the picked numbers

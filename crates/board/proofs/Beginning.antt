@@ -9,10 +9,9 @@ use Rattle.terms.specs.declared.records.Concept.TheVariants.{Atomic, Top, Conjun
 use Rattle.terms.specs.Vocabularies.{Vocabulary, Named}
 use Rattle.reasoning.specs.declared.Fact.{Fact}
 use Rattle.reasoning.specs.declared.Fact.TheVariants.{Under as under, Implies as implies}
-use Rattle.reasoning.specs.declared.Job.{Job}
-use Rattle.reasoning.specs.Derivations.{fact_of, Within}
-use Rattle.saturation.specs.declared.State.TheVariants.{Idle, Queued}
-use Rattle.saturation.specs.Boards.{Board, Moment, Sane}
+use Rattle.reasoning.specs.Derivations.{Within}
+use Rattle.saturation.specs.declared.State.TheVariants.{Queued}
+use Rattle.saturation.specs.Boards.{Moment, Sane}
 use Rattle.saturation.specs.Effects.{Made}
 use Rattle.board.specs.declared.board.OpenBoard.{OpenBoard}
 use Rattle.board.specs.Views.{board_of, moment_of}

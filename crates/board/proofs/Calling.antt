@@ -1,21 +1,19 @@
 -- One or two concepts queued, where those are the ones with a job of the fact.
-use Rattle.std.proofs.Common.{◌≡◌, ℕ, ◌+◌, ◌<◌, ◌≤◌, Bool, true, false, ◌⊎◌, length, get_or, sym, refl, ap, ◌∙◌, subst, subst₂, inl, inr, ⊎_elim, arith}
+use Rattle.std.proofs.Common.{◌≡◌, ℕ, ◌<◌, true, ◌⊎◌, length, sym, refl, ◌∙◌, subst, subst₂, inl, inr, ⊎_elim, arith}
 use Rattle.std.proofs.lemmas.Bool.{cases_eq}
 use Rattle.terms.specs.Vocabularies.{Vocabulary, Is}
-use Rattle.terms.specs.declared.records.Concept.{Concept}
-use Rattle.terms.specs.declared.records.Concept.TheVariants.{Atomic, Top, Conjunction, Restriction}
-use Rattle.reasoning.specs.Derivations.{fact_of, Within, Fits, JobAt, at_left, at_filler, at_premise}
+use Rattle.terms.specs.declared.records.Concept.TheVariants.{Restriction}
+use Rattle.reasoning.specs.Derivations.{fact_of, Within, JobAt, at_left, at_filler, at_premise}
 use Rattle.reasoning.specs.declared.Fact.{Fact}
 use Rattle.reasoning.specs.declared.Job.{Job}
 use Rattle.saturation.specs.Boards.{Board, Moment}
 use Rattle.saturation.specs.Effects.{SameGrades}
-use Rattle.saturation.specs.declared.State.{State}
-use Rattle.saturation.specs.declared.State.TheVariants.{Idle, Queued, Held}
+use Rattle.saturation.specs.declared.State.TheVariants.{Idle, Queued}
 use Rattle.reasoning.specs.declared.Fact.TheVariants.{Under as under, Implies as implies}
 use Rattle.reasoning.specs.declared.Job.TheVariants.{Own as own, Link as link, Imply as imply}
 use Rattle.saturation.proofs.Places.{idle≢queued}
 use Rattle.board.specs.Moves.{Stays, Wakes, Nudged}
-use Rattle.board.specs.Raises.{Raises, Touched, Works, Gains, Called}
+use Rattle.board.specs.Raises.{Works, Called}
 
 nudge_at : (n m c : ℕ) (a b : Moment) → Nudged n m c a b → (x : ℕ) → x < n → Stays x a b ⊎ (Wakes x a b × (x ≡ c))
 nudge_at n m c a b N x h =

@@ -1,12 +1,12 @@
 -- Raises one after another, on boards and piles.
-use Rattle.std.proofs.Common.{◌≡◌, ℕ, ◌+◌, ◌<◌, ◌≤◌, ◌⊎◌, length, sym, refl, ap, ◌∙◌, subst, subst₂, inl, inr, ⊎_elim, arith}
+use Rattle.std.proofs.Common.{◌≡◌, ℕ, ◌+◌, ◌<◌, ◌⊎◌, subst, inl, inr, ⊎_elim, arith}
 use Rattle.std.proofs.lemmas.Bool.{cases_lt}
 use Rattle.grades.specs.Kinds.{Kind, Lawful}
 use Rattle.piles.specs.Sets.{Numbers}
 use Rattle.terms.specs.Vocabularies.{Vocabulary, WellFormed}
 use Rattle.reasoning.specs.declared.Fact.{Fact}
 use Rattle.board.specs.Views.{moment_of}
-use Rattle.board.specs.Raises.{Raises, Ready, Drawn}
+use Rattle.board.specs.Raises.{Ready, Drawn}
 use Rattle.board.specs.OwnDraws.{AnyBelow}
 use Rattle.board.specs.declared.board.OpenBoard.{OpenBoard}
 use Rattle.board.proofs.Frames.{kept_same, kept_then, ready_kept}

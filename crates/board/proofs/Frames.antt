@@ -1,5 +1,5 @@
 -- What stays, one call after another.
-use Rattle.std.proofs.Common.{◌≡◌, ℕ, ◌<◌, ◌≤◌, length, get_or, set, sym, refl, ap, ◌∙◌, subst₂, arith, length-set, get_or-set_other}
+use Rattle.std.proofs.Common.{◌≤◌, sym, refl, ◌∙◌, subst₂, arith}
 use Rattle.piles.specs.Sets.{Numbers}
 use Rattle.terms.specs.Vocabularies.{Vocabulary}
 use Rattle.board.specs.declared.board.OpenBoard.{OpenBoard}

@@ -1,5 +1,5 @@
 -- What any job draws.
-use Rattle.std.proofs.Common.{◌≡◌, ℕ, ◌<◌, true, length, get_or, sym, refl, subst}
+use Rattle.std.proofs.Common.{◌≡◌, ℕ, ◌<◌, length, get_or, sym, refl, subst}
 use Rattle.grades.specs.Kinds.{Kind, Lawful}
 use Rattle.terms.specs.Vocabularies.{Vocabulary, Is, WellFormed}
 use Rattle.terms.specs.declared.records.Concept.{Concept}

@@ -1,5 +1,5 @@
 -- What a link job and an implication job draw, by the rules and by the code's list of cases.
-use Rattle.std.proofs.Common.{◌≡◌, ℕ, ◌<◌, Bool, true, false, ◌&&◌, ◌⊎◌, List, [], ◌∷◌, length, get_or, sym, refl, ap, ◌∙◌, subst, inl, inr, ⊎_elim, arith}
+use Rattle.std.proofs.Common.{◌≡◌, ℕ, ◌<◌, true, ◌⊎◌, List, [], ◌∷◌, length, get_or, sym, refl, ap, ◌∙◌, subst, inl, inr, ⊎_elim, arith}
 use mathlib.Core.List.Memᴰ
 use mathlib.Core.List.{Memᴰ}
 use Rattle.grades.specs.Kinds.{Kind, Lawful}
@@ -12,7 +12,6 @@ use Rattle.reasoning.specs.declared.Job.{Job}
 use Rattle.saturation.specs.Boards.{Draws}
 use Rattle.reasoning.specs.declared.Fact.TheVariants.{Under as under, Implies as implies}
 use Rattle.reasoning.specs.declared.Job.TheVariants.{Own as own, Link as link, Imply as imply}
-use Rattle.board.specs.Raises.{Gains}
 use Rattle.board.specs.declared.board.joins.Partners.{Partners}
 use Rattle.board.specs.declared.board.joins.Partners.TheVariants.{Implications, Links}
 use Rattle.board.specs.declared.board.joins.Head.{Head}
@@ -21,7 +20,7 @@ use Rattle.board.specs.declared.board.joins.Join.{Join}
 use Rattle.board.specs.declared.board.joins.Link.{Link}
 use Rattle.board.specs.declared.board.joins.Implication.{Implication}
 use Rattle.board.specs.OwnDraws.{AnyBelow}
-use Rattle.board.specs.JoinDraws.{partner, conclusion, Placed, Heads, ByPartner, ByPartners, ByRole, ByJoin, ByLink, ByFiller, ByImplication}
+use Rattle.board.specs.JoinDraws.{partner, conclusion, Placed, Heads, ByPartners, ByRole, ByJoin, ByLink, ByFiller, ByImplication}
 use Rattle.board.proofs.Meets.{meets, parts}
 
 one_role : {k : Concept} {r x r' x' : ℕ} → k ≡ Restriction r x → k ≡ Restriction r' x' → r ≡ r'

@@ -1,5 +1,5 @@
 -- Members of a list, by their places.
-use Rattle.std.proofs.Common.{◌≡◌, ℕ, zero, suc, ◌<◌, List, [], ◌∷◌, length, get_or, sym, refl, ◌∙◌, suc-le-suc, zero-le, arith}
+use Rattle.std.proofs.Common.{◌≡◌, ℕ, zero, suc, ◌<◌, List, [], ◌∷◌, length, get_or, sym, refl, arith}
 use mathlib.Core.List.{Memᴰ}
 use Rattle.terms.specs.Vocabularies.{Vocabulary, WellFormed}
 use Rattle.terms.specs.Rule.{blank}

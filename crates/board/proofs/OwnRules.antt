@@ -1,22 +1,20 @@
 -- What the own job of `under c d` draws, by the rules and by the code's list of cases.
-use Rattle.std.proofs.Common.{◌≡◌, ℕ, ◌<◌, Bool, true, false, ◌&&◌, ◌⊎◌, List, [], ◌∷◌, length, get_or, sym, refl, ap, ◌∙◌, subst, inl, inr, ⊎_elim, arith}
+use Rattle.std.proofs.Common.{◌≡◌, ℕ, ◌<◌, true, ◌⊎◌, List, [], ◌∷◌, length, get_or, sym, refl, ap, ◌∙◌, subst, inl, inr, ⊎_elim, arith}
 use mathlib.Core.List.Memᴰ
 use mathlib.Core.List.{Memᴰ}
 use Rattle.grades.specs.Kinds.{Kind, Lawful}
 use Rattle.terms.specs.Vocabularies.{Vocabulary, Is}
 use Rattle.terms.specs.declared.records.Concept.{Concept}
 use Rattle.terms.specs.declared.records.Concept.TheVariants.{Atomic, Top, Conjunction, Restriction}
-use Rattle.terms.specs.declared.records.Inclusion.{Inclusion}
 use Rattle.reasoning.specs.Derivations.{Rule, start, stated, left, right, filler, top, both, some, follows, spreads}
 use Rattle.reasoning.specs.declared.Fact.{Fact}
 use Rattle.reasoning.specs.declared.Job.{Job}
 use Rattle.saturation.specs.Boards.{Draws}
 use Rattle.reasoning.specs.declared.Fact.TheVariants.{Under as under, Implies as implies}
 use Rattle.reasoning.specs.declared.Job.TheVariants.{Own as own, Link as link, Imply as imply}
-use Rattle.board.specs.Raises.{Gains}
 use Rattle.terms.specs.Rule.{blank}
 use Rattle.board.specs.declared.board.own.Known.{Known}
-use Rattle.board.specs.OwnDraws.{AnyBelow, ByInclusion, ByStated, ByPair, ByShape, ByConcept, ByPart, ByParts, ByOwn}
+use Rattle.board.specs.OwnDraws.{ByInclusion, ByPair, ByShape, ByPart, ByOwn}
 use Rattle.board.proofs.Members.{member, member_at}
 use Rattle.board.proofs.Meets.{meets, parts}
 

@@ -1,21 +1,19 @@
 -- How raises of found grades compose.
-use Rattle.std.proofs.Common.{◌≡◌, ℕ, ◌+◌, ◌<◌, ◌≤◌, Bool, true, false, ◌||◌, ◌⊎◌, length, sym, refl, ap, ◌∙◌, subst, inl, inr, ⊎_elim, arith}
-use Rattle.std.proofs.lemmas.Bool.{cases_eq, true≢false, false≢true}
+use Rattle.std.proofs.Common.{◌≡◌, ℕ, ◌<◌, Bool, true, false, ◌||◌, ◌⊎◌, length, sym, refl, ap, ◌∙◌, subst, inl, inr, ⊎_elim, arith}
+use Rattle.std.proofs.lemmas.Bool.{cases_eq, false≢true}
 use Rattle.lemmas.proofs.Tests.{same_test}
 use Rattle.grades.specs.Kinds.{Kind, Lawful}
 use Rattle.terms.specs.Vocabularies.{Vocabulary, Is, WellFormed}
 use Rattle.terms.specs.declared.records.Concept.TheVariants.{Restriction}
-use Rattle.reasoning.specs.Derivations.{fact_of, Within, Fits, JobAt, at_left, at_filler, at_premise}
+use Rattle.reasoning.specs.Derivations.{fact_of, Within, JobAt}
 use Rattle.reasoning.specs.declared.Fact.{Fact}
 use Rattle.reasoning.specs.declared.Job.{Job}
-use Rattle.saturation.specs.Boards.{Board, Moment}
-use Rattle.saturation.specs.declared.State.{State}
-use Rattle.saturation.specs.declared.State.TheVariants.{Idle, Queued, Held}
+use Rattle.saturation.specs.Boards.{Moment}
+use Rattle.saturation.specs.declared.State.TheVariants.{Idle, Queued}
 use Rattle.reasoning.specs.declared.Fact.TheVariants.{Under as under, Implies as implies}
-use Rattle.reasoning.specs.declared.Job.TheVariants.{Own as own, Link as link, Imply as imply}
 use Rattle.reasoning.proofs.Jobs.{at_within, at_concept}
 use Rattle.saturation.proofs.Places.{idle≢queued}
-use Rattle.board.specs.Moves.{Stays, Wakes, Nudged, Wrote}
+use Rattle.board.specs.Moves.{Stays, Wakes, Wrote}
 use Rattle.board.specs.Raises.{Raises, Touched, Works, Gains, Called}
 
 -- a job stands at a concept of the vocabulary

@@ -8,11 +8,10 @@ use Rattle.piles.proofs.Tallies.{tally_le, tally_same, tally_without}
 use Rattle.terms.specs.Vocabularies.{Vocabulary}
 use Rattle.reasoning.specs.declared.Job.{Job}
 use Rattle.reasoning.specs.Derivations.{fact_of}
-use Rattle.saturation.specs.declared.State.{State}
-use Rattle.saturation.specs.declared.State.TheVariants.{Idle, Queued, Held}
+use Rattle.saturation.specs.declared.State.TheVariants.{Held}
 use Rattle.saturation.specs.declared.Outcome.{Outcome}
 use Rattle.saturation.specs.declared.Outcome.TheVariants.{Finished, Spent, Left}
-use Rattle.saturation.specs.Boards.{Board, Moment, Quiet, QuietAt, Sane}
+use Rattle.saturation.specs.Boards.{Board, Quiet, QuietAt, Sane}
 use Rattle.saturation.specs.Effects.{Took, Lowered, Rechecked}
 use Rattle.saturation.specs.Histories.{Event, took, worked, lowered, rechecked, other}
 use Rattle.saturation.specs.Runs.{Exhausts, Runs, NothingToTake}
@@ -25,7 +24,7 @@ use Rattle.board.specs.Raises.{Ready}
 use Rattle.board.specs.Deeds.{Did}
 use Rattle.board.specs.Refusals.{SameCounts, IsHeld, Unready, TakeRejected, LowerRejected, RecheckRejected}
 use Rattle.board.specs.Calls.{StaysSane}
-use Rattle.board.specs.Running.{Stepping, Ongoing, Exhausted, Turned, Rolling}
+use Rattle.board.specs.Running.{Ongoing, Exhausted, Turned, Rolling}
 use Rattle.board.proofs.Frames.{kept_same, kept_then, kept_framed, ready_kept}
 use Rattle.board.proofs.AsStated.{as_stated, still_sane}
 

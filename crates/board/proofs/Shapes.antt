@@ -1,5 +1,5 @@
 -- The shapes of concepts: their operands, and what they add.
-use Rattle.std.proofs.Common.{◌≡◌, ℕ, ◌<◌, ◌≤◌, true, ◌⊎◌, length, get_or, refl, subst, inl, inr, ⊎_elim, arith}
+use Rattle.std.proofs.Common.{◌≡◌, ℕ, ◌<◌, true, length, get_or, refl, subst, inl, inr, ⊎_elim, arith}
 use Rattle.grades.specs.Kinds.{Kind}
 use Rattle.terms.specs.Vocabularies.{Vocabulary, WellFormed, Is}
 use Rattle.terms.specs.declared.records.Concept.{Concept}

@@ -1,19 +1,19 @@
 -- What a change of state, a put and a rejection leave.
-use Rattle.std.proofs.Common.{◌≡◌, ℕ, ◌<◌, ◌≤◌, Bool, true, false, cond, Some, None, Ok, Err, Option, Result, sym, refl, ap, ◌∙◌, subst, ⊎_elim, arith}
+use Rattle.std.proofs.Common.{◌≡◌, ℕ, true, false, cond, Some, None, Ok, Err, Option, Result, sym, refl, ap, ◌∙◌, subst, ⊎_elim, arith}
 use Rattle.std.proofs.lemmas.Bool.{false≢true, cases_eq, eq-eqb, ne_eqb}
 use Rattle.rejections.specs.declared.Rejection.{Rejection}
 use Rattle.grades.specs.Kinds.{Kind}
-use Rattle.piles.specs.Sets.{Numbers, Put, Drew, with, without}
+use Rattle.piles.specs.Sets.{Numbers, Put, Drew}
 use Rattle.saturation.specs.declared.State.{State}
 use Rattle.saturation.specs.declared.State.TheVariants.{Idle, Queued, Held}
 use Rattle.saturation.specs.Boards.{Sane}
 use Rattle.board.specs.declared.board.OpenBoard.{OpenBoard}
 use Rattle.board.specs.declared.board.states.Change.TheVariants.{Take, Lower}
 use Rattle.board.specs.Views.{board_of}
-use Rattle.board.specs.Frames.{Framed, Kept}
+use Rattle.board.specs.Frames.{Framed}
 use Rattle.board.specs.Moves.{after, Shifted}
 use Rattle.board.specs.Calls.{StaysSane}
-use Rattle.board.proofs.Frames.{framed_same, kept_same}
+use Rattle.board.proofs.Frames.{framed_same}
 
 -- a shift that says no leaves everything, and the table asks for nothing
 pub shift_no : {X : Type 0} (c : ℕ) (a b : OpenBoard X) (o : Option State) → Shifted board_of a.concepts a.roles c o a b false → (o ≡ None) × (b ≡ a)

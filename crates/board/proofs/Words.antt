@@ -1,14 +1,13 @@
 -- What a write of one word changes of what the words say.
-use Rattle.std.proofs.Common.{◌≡◌, ℕ, ◌+◌, ◌*◌, ◌<◌, ◌≤◌, ◌≢◌, List, length, get_or, set, sym, refl, ap, ◌∙◌, subst, arith, length-set, get_or-set_other, get_or-set_same}
+use Rattle.std.proofs.Common.{◌≡◌, ℕ, ◌+◌, ◌*◌, ◌<◌, ◌≤◌, List, length, get_or, set, sym, refl, ap, ◌∙◌, arith, length-set, get_or-set_other, get_or-set_same}
 use Rattle.reasoning.specs.Derivations.{fact_of, Fits}
 use Rattle.reasoning.specs.declared.Fact.{Fact}
 use Rattle.reasoning.specs.declared.Job.{Job}
-use Rattle.saturation.specs.Boards.{Board}
 use Rattle.saturation.specs.Effects.{SameGrades}
 use Rattle.reasoning.specs.declared.Fact.TheVariants.{Under as under, Implies as implies}
 use Rattle.reasoning.specs.declared.Job.TheVariants.{Own as own, Link as link, Imply as imply}
 use Rattle.board.specs.declared.board.OpenBoard.{OpenBoard}
-use Rattle.board.specs.Layout.{place, room, StateWords}
+use Rattle.board.specs.Layout.{room, StateWords}
 use Rattle.board.specs.Frames.{Framed}
 use Rattle.board.specs.Moves.{Wrote, Marked}
 use Rattle.board.specs.Views.{row, column, plane, layer, spot, mark, view_of, state_of}

@@ -1,5 +1,5 @@
 -- A job marked done, what it draws, and the count: that is a step.
-use Rattle.std.proofs.Common.{◌≡◌, ℕ, ◌+◌, ◌-◌, ◌^◌, ◌<◌, ◌≤◌, min, true, ◌⊎◌, length, sym, ◌∙◌, subst, inl, inr, ⊎_elim}
+use Rattle.std.proofs.Common.{◌≡◌, ℕ, ◌+◌, ◌-◌, ◌^◌, ◌<◌, min, true, length, sym, ◌∙◌, subst, inl, inr, ⊎_elim}
 use Rattle.grades.specs.Kinds.{Kind}
 use Rattle.terms.specs.Vocabularies.{Vocabulary}
 use Rattle.reasoning.specs.Derivations.{fact_of, Within}

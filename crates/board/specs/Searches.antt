@@ -1,5 +1,5 @@
 -- The search for the first job that waits at a concept.
-use Rattle.std.specs.Prelude.{◌≡◌, ℕ, ◌<◌, ◌≤◌, Bool, length, Some, None, Option}
+use Rattle.std.specs.Prelude.{◌≡◌, ℕ, ◌<◌, Bool, length, Some, None, Option}
 use Rattle.terms.specs.declared.records.Concept.TheVariants.{Restriction}
 use Rattle.terms.specs.Vocabularies.{Vocabulary, Is}
 use Rattle.reasoning.specs.declared.Job.{Job}

@@ -1,5 +1,5 @@
 -- Each kind of grade keeps the laws of kinds.
-use Rattle.std.specs.Prelude.{◌≡◌, ℕ, ◌<◌, ◌&&◌, ◌≢◌, nat_le, nat_lt, refl}
+use Rattle.std.specs.Prelude.{ℕ, ◌<◌, ◌&&◌, ◌≢◌, nat_le, nat_lt, refl}
 use Rattle.std.proofs.Common.{inl, inr, arith}
 use Rattle.std.proofs.lemmas.Bool.{cases_order}
 use Rattle.std.proofs.lemmas.Bool.Decides.{nat_tests}

@@ -1,5 +1,5 @@
 -- The kind of any set of sixteen views.
-use Rattle.std.specs.Prelude.{ℕ, ◌/◌, ◌%◌, ◌^◌, Bool, cond, ◌&&◌, ◌==◌, bit_and, bit_or, nat_lt}
+use Rattle.std.specs.Prelude.{ℕ, ◌/◌, ◌%◌, ◌^◌, cond, ◌&&◌, ◌==◌, bit_and, bit_or, nat_lt}
 use Rattle.grades.specs.Kinds.{Kind}
 
 -- the code itself, or 0 for a number that is no code

@@ -1,5 +1,5 @@
 -- The bits of words that are joined or met.
-use Rattle.std.proofs.Common.{◌≡◌, ℕ, ◌*◌, ◌/◌, ◌%◌, ◌^◌, min, max, ap, ◌∙◌, arith}
+use Rattle.std.proofs.Common.{◌≡◌, ℕ, ◌/◌, ◌%◌, ◌^◌, min, max, ap, ◌∙◌, arith}
 use native.Mathlib.Nat.{mul-add-mod_self_right}
 use lib.Bits.{bit_and, bit_or, and_step, or_step, or_shr, and_shr}
 

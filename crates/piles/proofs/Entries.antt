@@ -1,5 +1,5 @@
 -- What the entries of a lent list say, and what a write to one of them changes.
-use Rattle.std.proofs.Common.{◌≡◌, ℕ, ◌+◌, ◌<◌, ◌≤◌, true, false, cond, not, eqb, List, ◌++◌, length, get_or, drop, set, replicate, sym, ap, ◌∙◌, inl, inr, arith, length-append, length-drop, length-take, get_or-set_other, get_or-take, get_or-set_same, drop-set-lt}
+use Rattle.std.proofs.Common.{◌≡◌, ℕ, ◌<◌, ◌≤◌, true, false, cond, not, eqb, List, ◌++◌, length, get_or, drop, set, replicate, sym, ap, ◌∙◌, inl, inr, arith, length-append, length-drop, length-take, get_or-set_other, get_or-take, get_or-set_same, drop-set-lt}
 use lib.ListN.{length-replicate, get_or-replicate}
 use lib.Seq.{take-set-lt}
 use Rattle.std.proofs.lemmas.List.{get_or_past, get_or_append_left, drop_at, drop_all}

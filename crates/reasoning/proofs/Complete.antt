@@ -7,7 +7,7 @@ use Rattle.terms.specs.declared.records.Concept.{Concept}
 use Rattle.terms.specs.declared.records.Concept.TheVariants.{Atomic, Top, Conjunction, Restriction}
 use Rattle.terms.specs.Vocabularies.{Vocabulary, Is, WellFormed}
 use Rattle.reasoning.specs.Models.{Structure, Model, Inside, In}
-use Rattle.reasoning.specs.Derivations.{Fact, under, implies, Job, fact_of, Rule, Derivable, by, Closed}
+use Rattle.reasoning.specs.Derivations.{Fact, under, implies, Job, fact_of, Rule, by, Closed}
 use Rattle.reasoning.specs.Truth.{Complete, Least, Exact}
 use Rattle.reasoning.proofs.Sound.{sound}
 use Rattle.lemmas.specs.Tests.{every, if_then}

@@ -1,16 +1,15 @@
 -- A job waits at each queued concept, until a worker has taken it.
-use Rattle.std.proofs.Common.{◌≡◌, ℕ, ◌<◌, Bool, true, false, ◌⊎◌, length, sym, refl, ap, ◌∙◌, subst, inl, inr, arith}
+use Rattle.std.proofs.Common.{◌≡◌, ℕ, ◌<◌, true, false, length, sym, ap, ◌∙◌, subst, inl, inr}
 use Rattle.std.proofs.lemmas.Bool.{cases_eq, both_ways}
 use Rattle.grades.specs.Kinds.{Kind, Lawful}
-use Rattle.terms.specs.Vocabularies.{Vocabulary, Named, WellFormed}
+use Rattle.terms.specs.Vocabularies.{Vocabulary, WellFormed}
 use Rattle.reasoning.specs.declared.Fact.TheVariants.{Under as under}
 use Rattle.reasoning.specs.declared.Job.{Job}
 use Rattle.reasoning.specs.declared.Job.TheVariants.{Own as own}
 use Rattle.reasoning.specs.Derivations.{fact_of, Within, JobAt, at_left}
-use Rattle.reasoning.proofs.Jobs.{same_job, is_named_lem, at_within, at_one_concept}
-use Rattle.saturation.specs.declared.State.{State}
-use Rattle.saturation.specs.declared.State.TheVariants.{Idle, Queued, Held}
-use Rattle.saturation.specs.Boards.{Board, Moment, QuietAt, Stirred, Missed, Sane}
+use Rattle.reasoning.proofs.Jobs.{is_named_lem, at_within, at_one_concept}
+use Rattle.saturation.specs.declared.State.TheVariants.{Queued}
+use Rattle.saturation.specs.Boards.{Board, Moment, QuietAt, Sane}
 use Rattle.saturation.specs.Effects.{SameGrades, Made, Took, Worked, Lowered, Rechecked, Unchanged}
 use Rattle.saturation.proofs.Places.{which, idle≢queued, held≢queued}
 use Rattle.lemmas.proofs.Tests.{same_test}

@@ -1,11 +1,11 @@
 -- The tests of mates and parents decide what they are named after, where the test of "lies under" does so between named concepts.
-use Rattle.std.proofs.Common.{◌≡◌, ℕ, ◌<◌, ◌≤◌, Bool, true, not, length, Decides, arith}
+use Rattle.std.proofs.Common.{ℕ, ◌≤◌, Bool, not, length, Decides, arith}
 use Rattle.std.proofs.lemmas.Bool.Decides.{Decides-not, Decides-eqb, Decides-and, Decides-like}
 use Rattle.lemmas.proofs.Tests.{decides_then, decides_every}
 use Rattle.terms.specs.Vocabularies.{Vocabulary, Named, is_named}
 use Rattle.terms.proofs.Namings.{named_is, is_named_lem}
 use Rattle.saturation.specs.Answers.{Mate, Between, Parent}
-use Rattle.saturation.specs.Deciding.{mate_test, between_test, lowest_test, nothing_between_test, parent_test}
+use Rattle.saturation.specs.Deciding.{mate_test, between_test, lowest_test, parent_test}
 
 pub named_decides : (v : Vocabulary) (a : ℕ) → Decides (is_named v a) (Named v a)
 named_decides v a = (named_is v a, is_named_lem v a)

@@ -1,5 +1,5 @@
 -- A run is a chain of effects, and a run from a board at rest with a budget for all possible pairs does all the work.
-use Rattle.std.proofs.Common.{◌≡◌, ℕ, zero, suc, ◌+◌, ◌-◌, ◌<◌, ◌≤◌, Bool, true, false, cond, ◌⊎◌, List, [], ◌∷◌, ◌++◌, length, sym, refl, ap, ◌∙◌, subst, inl, inr, append_assoc, arith}
+use Rattle.std.proofs.Common.{◌≡◌, ℕ, zero, suc, ◌+◌, ◌-◌, ◌<◌, ◌≤◌, true, false, ◌⊎◌, List, [], ◌∷◌, ◌++◌, length, sym, refl, ap, ◌∙◌, subst, inl, inr, append_assoc, arith}
 use mathlib.Core.List.{Memᴰ}
 use Rattle.std.proofs.lemmas.Bool.{cases_eq, cases_lt, cases_Bool, both_ways, eq-eqb, ne_eqb}
 use Rattle.grades.specs.Kinds.{Kind, Lawful}
@@ -11,8 +11,8 @@ use Rattle.saturation.specs.declared.State.{State}
 use Rattle.saturation.specs.declared.State.TheVariants.{Idle, Queued, Held}
 use Rattle.saturation.specs.declared.Outcome.{Outcome}
 use Rattle.saturation.specs.declared.Outcome.TheVariants.{Finished}
-use Rattle.saturation.specs.Boards.{Board, Moment, Quiet, Waits}
-use Rattle.saturation.specs.Effects.{Made, Worked}
+use Rattle.saturation.specs.Boards.{Moment, Quiet}
+use Rattle.saturation.specs.Effects.{Made}
 use Rattle.saturation.specs.Histories.{Event, took, worked, lowered, rechecked, other, Leads, nothing, and_then, History, granted, given_back, unrechecked, held_one, held_count}
 use Rattle.saturation.specs.Runs.{Exhausts, NothingToTake, Runs}
 use Rattle.saturation.specs.AnyOrder.{possible_pairs, FreshRunFinishes, Rested, AllDone, RunsFinish, RunsLead}

@@ -1,7 +1,6 @@
 -- What every history keeps, and what it promises.
-use Rattle.std.proofs.Common.{◌≡◌, ℕ, ◌<◌, Bool, true, ◌&&◌, List, [], ◌∷◌, sym, ap, ◌∙◌, le_of_eq, arith}
+use Rattle.std.proofs.Common.{◌≡◌, ℕ, ◌<◌, true, List, [], ◌∷◌}
 use mathlib.Core.List.{Memᴰ}
-use Rattle.std.proofs.lemmas.Bool.{and_parts, and_from}
 use Rattle.terms.specs.Vocabularies.{Vocabulary, WellFormed}
 use Rattle.grades.specs.Kinds.{Kind, Lawful}
 use Rattle.reasoning.specs.declared.Fact.{Fact}
@@ -11,8 +10,8 @@ use Rattle.saturation.specs.Boards.{Board, Moment, Quiet}
 use Rattle.saturation.specs.Effects.{Made}
 use Rattle.saturation.specs.Histories.{Event, took, worked, lowered, rechecked, other, Effect, Leads, nothing, and_then, History}
 use Rattle.saturation.specs.AnyOrder.{Due}
-use Rattle.reasoning.proofs.Jobs.{inside, inside_within, within_inside, at_within}
-use Rattle.reasoning.proofs.Rules.{conclusion_within, premise_at, derivable_in}
+use Rattle.reasoning.proofs.Jobs.{at_within}
+use Rattle.reasoning.proofs.Rules.{premise_at}
 use Rattle.saturation.proofs.Good.{Good, Tally, Done, good_same, tally_same, made_good, made_tally, worked_good, worked_tally}
 use Rattle.saturation.proofs.Places.{Placed, made_placed, took_placed, lowered_placed, other_placed, rechecked_placed, worked_placed}
 use Rattle.saturation.proofs.Busy.{Busy, made_busy, took_busy, lowered_busy, other_busy, rechecked_busy, worked_busy}

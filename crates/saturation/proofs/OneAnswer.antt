@@ -1,5 +1,5 @@
 -- Every history keeps its promise, and any two that end quiet found the same grades.
-use Rattle.std.proofs.Common.{◌≡◌, ℕ, ◌<◌, Bool, true, false, ◌&&◌, ◌⊎◌, List, length, sym, refl, ap, ◌∙◌, inl, inr, arith}
+use Rattle.std.proofs.Common.{◌≡◌, ℕ, ◌<◌, Bool, true, false, ◌&&◌, ◌⊎◌, List, length, sym, ap, ◌∙◌, inl, inr, arith}
 use mathlib.Core.List.Memᴰ
 use mathlib.Core.List.{Memᴰ}
 use Rattle.std.proofs.lemmas.Bool.{cases_eq, both_ways, and_parts, and_from}
@@ -9,7 +9,7 @@ use Rattle.terms.specs.Vocabularies.{Vocabulary, WellFormed}
 use Rattle.reasoning.specs.declared.Fact.{Fact}
 use Rattle.reasoning.specs.declared.Fact.TheVariants.{Under as under}
 use Rattle.reasoning.specs.declared.Job.{Job}
-use Rattle.reasoning.specs.Derivations.{fact_of, Within, Rule, Derivable, Closed}
+use Rattle.reasoning.specs.Derivations.{fact_of, Within, Derivable, Closed}
 use Rattle.reasoning.proofs.Jobs.{inside, inside_within, within_inside, at_concept}
 use Rattle.reasoning.proofs.Rules.{conclusion_within, derivable_in}
 use Rattle.reasoning.proofs.Sound.{sound}

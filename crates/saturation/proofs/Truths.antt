@@ -1,11 +1,7 @@
 -- Mates and parents on a quiet board are those of all finite models.
-use Rattle.std.proofs.Common.{◌≡◌, ℕ, ◌<◌, ◌≤◌, List, length}
-use mathlib.Core.List.{Memᴰ}
-use Rattle.grades.specs.Kinds.{Kind, Lawful}
-use Rattle.terms.specs.Vocabularies.{Vocabulary, Named, WellFormed}
-use Rattle.saturation.specs.Boards.{Board, Moment, Quiet}
-use Rattle.saturation.specs.Histories.{Event, History}
-use Rattle.saturation.specs.Answers.{FoundUnder, TrulyUnder, Mate, Between, Parent, ListOf, AnswersTrue, QuietAnswersTrue}
+use Rattle.std.proofs.Common.{ℕ, ◌<◌, List}
+use Rattle.terms.specs.Vocabularies.{Vocabulary, Named}
+use Rattle.saturation.specs.Answers.{FoundUnder, TrulyUnder, Mate, Between, Parent, ListOf, QuietAnswersTrue}
 use Rattle.saturation.proofs.OneAnswer.{any_order}
 
 -- two relations that agree between named concepts

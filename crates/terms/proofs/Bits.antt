@@ -1,8 +1,8 @@
 -- Bits of words.
-use Rattle.std.proofs.Common.{◌≡◌, ℕ, ◌+◌, ◌-◌, ◌*◌, ◌/◌, ◌%◌, ◌^◌, ◌<◌, max, true, ◌⊎◌, get_or, replicate, sym, ap, ◌∙◌, subst, inl, inr, ⊎_elim, arith}
-use native.Mathlib.Nat.{zero-div, div-eq_of_lt, mul-mod_right, mul-add-mod_self_right}
-use lib.Bits.{bit_or, or_step}
-use Rattle.std.proofs.lemmas.Nat.{pow-add, pow_below, or_shr, shl-shr}
+use Rattle.std.proofs.Common.{◌≡◌, ℕ, ◌+◌, ◌-◌, ◌*◌, ◌/◌, ◌%◌, ◌^◌, true, ◌⊎◌, get_or, replicate, sym, ap, ◌∙◌, subst, inl, inr, ⊎_elim, arith}
+use native.Mathlib.Nat.{zero-div, div-eq_of_lt, mul-mod_right}
+use lib.Bits.{bit_or}
+use Rattle.std.proofs.lemmas.Nat.{pow-add, pow_below, shl-shr}
 use Rattle.std.proofs.lemmas.List.{get_or-replicate, get_or_past}
 use Rattle.std.proofs.lemmas.Bool.{eqb-true, eq-eqb, cases_eq, cases_lt, cases_order}
 use Rattle.lemmas.proofs.Bits.{or_bit}

@@ -1,14 +1,14 @@
 -- All terms are well formed: the facts of their fields, said of the vocabulary that they are.
-use Rattle.std.proofs.Common.{◌≡◌, ℕ, zero, suc, ◌+◌, ◌<◌, ◌≤◌, min, max, List, [], ◌∷◌, length, get_or, take, sym, refl, ap, ◌∙◌, subst, arith, length-take}
+use Rattle.std.proofs.Common.{◌≡◌, ℕ, suc, ◌<◌, List, length, get_or, sym, ◌∙◌, subst, arith, length-take}
 use mathlib.Core.List.{Memᴰ}
 use Rattle.std.proofs.lemmas.List.{get_or-take}
 use Rattle.terms.specs.declared.records.Concept.{Concept}
-use Rattle.terms.specs.declared.records.Concept.TheVariants.{Atomic, Top, Conjunction, Restriction}
+use Rattle.terms.specs.declared.records.Concept.TheVariants.{Atomic, Conjunction, Restriction}
 use Rattle.terms.specs.declared.records.Inclusion.{Inclusion}
 use Rattle.terms.specs.declared.terms.Terms.{Terms}
-use Rattle.terms.specs.Vocabularies.{Vocabulary, Is, WellFormed}
+use Rattle.terms.specs.Vocabularies.{Is, WellFormed}
 use Rattle.terms.specs.Rule.{blank, NamesBelow, Earlier}
-use Rattle.terms.specs.Views.{terms_of, contents_of}
+use Rattle.terms.specs.Views.{terms_of}
 
 -- a member of a list stands somewhere in it
 pub place_of : {A : Type 0} (d : A) {a : A} {xs : List A} → Memᴰ a xs → (k : ℕ) × (k < length xs) × (get_or xs k d ≡ a)

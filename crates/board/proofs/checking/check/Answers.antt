@@ -1,9 +1,9 @@
-use Rattle.std.proofs.Common.{◌≡◌, ℕ, ◌<◌, ◌≤◌, true, ◌⊎◌, length, sym, ap, ◌∙◌, subst₂, inl, inr, arith}
+use Rattle.std.proofs.Common.{◌≡◌, ℕ, ◌<◌, true, ◌⊎◌, length, ap, ◌∙◌, inl, inr, arith}
 use Rattle.std.proofs.lemmas.Result.{err_from_is_err_and}
 use Rattle.terms.specs.Views.{terms_of}
 use Rattle.terms.proofs.Formed.{well_formed}
 use Rattle.board.specs.Layout.{room}
-use Rattle.board.specs.Refusals.{MakeRejected, InOrder}
+use Rattle.board.specs.Refusals.{MakeRejected}
 use Rattle.board.proofs.Tallies.{tally_found, count_none}
 use Rattle.board.proofs.checking.check.Goals as goal
 use Rattle.board.proofs.checking.check.Goals.{then-size-concepts-via-then-size-concepts, then-size-concepts-via-else-size-concepts+then-count-gt0}

@@ -1,4 +1,4 @@
-use Rattle.std.proofs.Common.{◌≡◌, length, sym, ap, ◌∙◌, arith}
+use Rattle.std.proofs.Common.{length, sym, ap, ◌∙◌, arith}
 use Rattle.board.specs.Refusals.{Unready}
 use Rattle.board.proofs.board.OpenBoard.admit.Goals as goal
 use Rattle.board.proofs.board.OpenBoard.admit.Goals.{then-self-concepts-via-then-self-concepts, then-self-concepts-via-else-self-concepts+then-self-roles}

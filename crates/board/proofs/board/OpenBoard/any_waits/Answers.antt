@@ -1,4 +1,4 @@
-use Rattle.std.proofs.Common.{◌≡◌, sym, ◌∙◌, subst}
+use Rattle.std.proofs.Common.{sym, ◌∙◌, subst}
 use Rattle.terms.specs.Views.{terms_of}
 use Rattle.saturation.specs.Boards.{Quiet}
 use Rattle.board.proofs.board.OpenBoard.any_waits.Goals as goal

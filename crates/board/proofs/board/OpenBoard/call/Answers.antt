@@ -1,9 +1,8 @@
-use Rattle.std.proofs.Common.{◌≡◌, ℕ, ◌<◌, ◌⊎◌, length, sym, refl, ◌∙◌, subst, inl, inr, ⊎_elim, arith}
+use Rattle.std.proofs.Common.{◌≡◌, ℕ, sym, refl, ◌∙◌, subst, inl, inr, ⊎_elim, arith}
 use Rattle.terms.specs.Vocabularies.{Is}
 use Rattle.terms.specs.declared.records.Concept.{Concept}
 use Rattle.terms.specs.declared.records.Concept.TheVariants.{Restriction}
 use Rattle.reasoning.specs.Derivations.{Within}
-use Rattle.reasoning.specs.declared.Fact.{Fact}
 use Rattle.saturation.specs.Boards.{Moment}
 use Rattle.reasoning.specs.declared.Fact.TheVariants.{Under as under, Implies as implies}
 use Rattle.board.specs.Views.{moment_of}

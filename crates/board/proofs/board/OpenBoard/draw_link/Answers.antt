@@ -1,4 +1,4 @@
-use Rattle.std.proofs.Common.{◌≡◌, ℕ, ◌<◌, sym, arith}
+use Rattle.std.proofs.Common.{◌≡◌, ℕ, sym, arith}
 use Rattle.grades.specs.Kinds.{Kind}
 use Rattle.terms.specs.Vocabularies.{Vocabulary}
 use Rattle.terms.specs.Views.{terms_of}

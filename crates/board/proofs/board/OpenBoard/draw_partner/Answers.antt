@@ -1,4 +1,4 @@
-use Rattle.std.proofs.Common.{◌≡◌, ap, ◌∙◌, subst₂}
+use Rattle.std.proofs.Common.{ap, ◌∙◌, subst₂}
 use Rattle.terms.specs.Views.{terms_of}
 use Rattle.board.specs.Views.{board_of}
 use Rattle.board.specs.Raises.{Drawn, Gains}

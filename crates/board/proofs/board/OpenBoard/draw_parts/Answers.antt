@@ -1,4 +1,4 @@
-use Rattle.std.proofs.Common.{◌≡◌, sym, subst}
+use Rattle.std.proofs.Common.{sym, subst}
 use Rattle.terms.specs.Views.{terms_of}
 use Rattle.terms.proofs.Formed.{well_formed}
 use Rattle.board.specs.Raises.{Drawn}

@@ -1,4 +1,4 @@
-use Rattle.std.proofs.Common.{◌≡◌, ℕ, ◌<◌, sym, ◌∙◌, subst₂, arith}
+use Rattle.std.proofs.Common.{◌≡◌, sym, ◌∙◌, subst₂, arith}
 use Rattle.std.proofs.lemmas.Bool.{false≢true}
 use Rattle.terms.specs.Views.{terms_of}
 use Rattle.terms.proofs.Formed.{well_formed}
@@ -7,7 +7,7 @@ use Rattle.reasoning.specs.Derivations.{Within, fact_of}
 use Rattle.board.specs.declared.board.joins.Head.TheVariants.{Through}
 use Rattle.board.specs.Views.{board_of}
 use Rattle.board.specs.Raises.{Drawn}
-use Rattle.board.specs.JoinDraws.{ByPartners, ByRole}
+use Rattle.board.specs.JoinDraws.{ByRole}
 use Rattle.board.proofs.Drawing.{drawn_ready, drawn_alike, drawn_guarded, drawn_none, turns_none, turns_more, turns_all}
 use Rattle.board.proofs.JoinRules.{partners_done}
 use Rattle.board.proofs.board.OpenBoard.draw_roles.Goals as goal

@@ -1,11 +1,10 @@
-use Rattle.std.proofs.Common.{◌≡◌, ◌+◌, ◌<◌, length, get_or, sym, ap, ◌∙◌, subst, subst₂, arith}
-use Rattle.terms.specs.declared.records.Inclusion.{Inclusion}
+use Rattle.std.proofs.Common.{◌≡◌, ◌<◌, length, get_or, sym, ap, ◌∙◌, subst, subst₂, arith}
 use Rattle.terms.specs.Rule.{blank}
 use Rattle.terms.specs.Views.{terms_of}
 use Rattle.terms.proofs.Formed.{well_formed}
 use Rattle.reasoning.specs.declared.Fact.TheVariants.{Under as under}
 use Rattle.board.specs.Raises.{Drawn, Gains}
-use Rattle.board.specs.OwnDraws.{AnyBelow, ByInclusion, ByStated}
+use Rattle.board.specs.OwnDraws.{ByInclusion, ByStated}
 use Rattle.board.proofs.Drawing.{drawn_ready, drawn_guarded, drawn_none, turns_none, turns_more, turns_all}
 use Rattle.board.proofs.Members.{sup_below}
 use Rattle.board.proofs.board.OpenBoard.draw_stated.Goals as goal

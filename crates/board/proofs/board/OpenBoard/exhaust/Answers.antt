@@ -1,4 +1,4 @@
-use Rattle.std.proofs.Common.{◌≡◌, arith}
+use Rattle.std.proofs.Common.{arith}
 use Rattle.terms.specs.Views.{terms_of}
 use Rattle.board.proofs.Frames.{ready_kept}
 use Rattle.board.proofs.Running.{ongoing_none, ongoing_more, ongoing_quiet, ongoing_spent}

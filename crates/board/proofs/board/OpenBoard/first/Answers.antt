@@ -1,4 +1,4 @@
-use Rattle.std.proofs.Common.{◌≡◌, ◌∙◌, subst, MatchOption}
+use Rattle.std.proofs.Common.{◌∙◌, subst, MatchOption}
 use Rattle.terms.specs.Views.{terms_of}
 use Rattle.saturation.specs.Boards.{First, QuietAt}
 use Rattle.board.proofs.board.OpenBoard.first.Goals as goal

@@ -1,4 +1,4 @@
-use Rattle.std.proofs.Common.{◌≡◌, refl, ap, ◌∙◌, arith}
+use Rattle.std.proofs.Common.{◌≡◌, refl, ◌∙◌, arith}
 use Rattle.board.specs.declared.board.states.Change.TheVariants.{Lower}
 use Rattle.board.specs.Views.{board_of}
 use Rattle.board.specs.Moves.{after}

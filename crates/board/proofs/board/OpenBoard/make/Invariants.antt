@@ -1,4 +1,3 @@
-use Rattle.std.proofs.Common.{◌≡◌, length}
 use Rattle.terms.specs.Views.{terms_of}
 use Rattle.board.specs.Frames.{Kept}
 use Rattle.board.specs.Making.{Begun}

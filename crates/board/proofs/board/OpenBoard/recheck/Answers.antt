@@ -1,6 +1,5 @@
-use Rattle.std.proofs.Common.{◌≡◌, length, sym, refl, subst₂, arith}
+use Rattle.std.proofs.Common.{sym, refl, subst₂, arith}
 use Rattle.terms.specs.Views.{terms_of}
-use Rattle.saturation.specs.Boards.{Sane}
 use Rattle.saturation.specs.Effects.{SameGrades}
 use Rattle.board.specs.Views.{board_of}
 use Rattle.board.specs.Refusals.{RecheckRejected}

@@ -1,4 +1,4 @@
-use Rattle.std.proofs.Common.{◌≡◌, length, sym, refl, ◌∙◌, subst, subst₂, arith}
+use Rattle.std.proofs.Common.{length, refl, ◌∙◌, subst, subst₂}
 use Rattle.terms.specs.Views.{terms_of}
 use Rattle.reasoning.specs.declared.Fact.TheVariants.{Under as under}
 use Rattle.board.specs.Views.{board_of, moment_of}

@@ -1,12 +1,11 @@
-use Rattle.std.proofs.Common.{◌≡◌, length, sym, refl, ◌∙◌, subst, subst₂, arith}
+use Rattle.std.proofs.Common.{length, sym, refl, subst₂, arith}
 use Rattle.std.proofs.lemmas.Result.{err_from_is_err_and}
-use Rattle.grades.specs.Kinds.{Kind}
 use Rattle.terms.specs.Views.{terms_of}
 use Rattle.saturation.specs.Boards.{Sane}
 use Rattle.board.specs.Views.{board_of, moment_of}
 use Rattle.board.specs.Refusals.{StepRejected}
 use Rattle.board.proofs.Frames.{kept_same}
-use Rattle.board.proofs.Shifting.{framed_is, sane_is}
+use Rattle.board.proofs.Shifting.{sane_is}
 use Rattle.board.proofs.AsStated.{as_stated, still_sane}
 use Rattle.board.proofs.board.OpenBoard.step.Goals as goal
 

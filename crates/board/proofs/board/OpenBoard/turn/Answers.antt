@@ -1,10 +1,9 @@
-use Rattle.std.proofs.Common.{◌≡◌, ◌<◌, sym, ◌∙◌, subst, arith}
+use Rattle.std.proofs.Common.{subst, arith}
 use Rattle.terms.specs.Views.{terms_of}
 use Rattle.saturation.specs.Effects.{Rechecked}
 use Rattle.board.specs.Views.{board_of, moment_of}
 use Rattle.board.specs.Frames.{Kept}
 use Rattle.board.specs.Raises.{Ready}
-use Rattle.board.specs.Refusals.{IsHeld}
 use Rattle.board.proofs.Frames.{kept_same, kept_then, kept_framed, ready_kept}
 use Rattle.board.proofs.Running.{lowers, rechecks, turned}
 use Rattle.board.proofs.board.OpenBoard.turn.Goals as goal

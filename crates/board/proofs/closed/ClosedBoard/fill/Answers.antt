@@ -1,13 +1,12 @@
-use Rattle.std.proofs.Common.{◌≡◌, ℕ, ◌<◌, ◌≤◌, Bool, List, ◌++◌, length, take, drop, sym, refl, ap, ◌∙◌, subst, arith}
+use Rattle.std.proofs.Common.{◌≡◌, ℕ, ◌<◌, ◌≤◌, List, length, drop, sym, refl, ◌∙◌, subst, arith}
 use Rattle.std.proofs.lemmas.Result.{err_from_is_err_and}
 use Rattle.std.proofs.lemmas.Bool.{both_ways}
 use Rattle.terms.specs.Views.{terms_of}
 use Rattle.terms.proofs.Formed.{well_formed}
-use Rattle.saturation.specs.Boards.{Board}
 use Rattle.saturation.specs.Answers.{FoundUnder, ListOf}
 use Rattle.board.specs.Views.{closed_of, read_of}
 use Rattle.board.specs.Asking.{wanted_test, picked}
-use Rattle.board.specs.Questions.{Wanted, Filled, answer, unsettled, no_concept, no_point, short_list, ListTruth}
+use Rattle.board.specs.Questions.{Wanted, answer, unsettled, no_concept, no_point, short_list, ListTruth}
 use Rattle.terms.proofs.Namings.{named_is, is_named_lem}
 use Rattle.board.proofs.Questioned.{settled_of, asked_list, list_truth, front_of}
 use Rattle.board.proofs.closed.ClosedBoard.fill.Goals as goal

@@ -1,8 +1,7 @@
-use Rattle.std.proofs.Common.{◌≡◌, length, sym, ap, ◌∙◌, subst}
+use Rattle.std.proofs.Common.{length, sym, ap, ◌∙◌, subst}
 use Rattle.terms.specs.Views.{terms_of}
 use Rattle.saturation.specs.Boards.{Board, Quiet}
-use Rattle.board.specs.Views.{closed_of}
-use Rattle.board.specs.Questions.{SettledOr, settled, other_terms, job_waits}
+use Rattle.board.specs.Questions.{settled, other_terms, job_waits}
 use Rattle.board.proofs.closed.ClosedBoard.settled.Goals as goal
 use Rattle.board.proofs.closed.ClosedBoard.settled.Goals.{then-concepts-self-via-then-concepts-self, then-concepts-self-via-else-concepts-self+then-roles-self}
 

@@ -1,4 +1,4 @@
-use Rattle.std.proofs.Common.{◌≡◌, ◌<◌, length, sym, ap, ◌∙◌, subst, arith}
+use Rattle.std.proofs.Common.{◌≡◌, ◌<◌, length, sym, ap, ◌∙◌, arith}
 use Rattle.reasoning.specs.declared.Fact.TheVariants.{Under as under}
 use Rattle.std.proofs.lemmas.Result.{err_from_is_err_and}
 use Rattle.std.proofs.lemmas.Bool.{both_ways}
@@ -6,7 +6,7 @@ use Rattle.terms.specs.Views.{terms_of}
 use Rattle.terms.proofs.Formed.{well_formed}
 use Rattle.saturation.specs.Boards.{Board}
 use Rattle.board.specs.Views.{closed_of}
-use Rattle.board.specs.Questions.{Settled, Under, answer, unsettled, no_concept}
+use Rattle.board.specs.Questions.{answer, unsettled, no_concept}
 use Rattle.terms.proofs.Namings.{named_is, is_named_lem}
 use Rattle.board.proofs.Questioned.{settled_of, under_truth}
 use Rattle.board.proofs.closed.ClosedBoard.under.Goals as goal

@@ -1,6 +1,6 @@
-use Rattle.std.proofs.Common.{◌≡◌, ℕ, length, get_or, sym, ap, ◌∙◌, subst}
+use Rattle.std.proofs.Common.{◌≡◌, ℕ, length, sym, ap, ◌∙◌, subst}
 use Rattle.terms.specs.declared.records.Concept.{Concept}
-use Rattle.terms.specs.declared.records.Concept.TheVariants.{Atomic, Restriction}
+use Rattle.terms.specs.declared.records.Concept.TheVariants.{Restriction}
 use Rattle.terms.specs.Vocabularies.{Is}
 use Rattle.terms.specs.Views.{terms_of}
 use Rattle.board.specs.declared.reader.finding.Line.TheVariants.{Links}

@@ -1,4 +1,4 @@
-use Rattle.std.proofs.Common.{◌≡◌, ℕ, ◌+◌, ◌<◌, ◌≤◌, Bool, true, false, List, [], ◌∷◌, ◌++◌, length, drop, set, sym, ap, ◌∙◌, arith, length-append}
+use Rattle.std.proofs.Common.{ℕ, Bool, [], ◌∷◌, length, sym, ap, arith, length-append}
 use Rattle.terms.specs.Views.{terms_of}
 use Rattle.board.specs.Views.{read_of}
 use Rattle.board.specs.Asking.{wanted_test, picked}

@@ -1,4 +1,4 @@
-use Rattle.std.proofs.Common.{◌≡◌, ℕ, Bool, true, false, not, sym, ap, ◌∙◌}
+use Rattle.std.proofs.Common.{ℕ, Bool, not, sym, ap}
 use Rattle.terms.specs.Views.{terms_of}
 use Rattle.board.specs.Views.{read_of}
 use Rattle.board.specs.Asking.{mate_test}

@@ -1,7 +1,7 @@
-use Rattle.std.proofs.Common.{◌≡◌, ℕ, ◌+◌, ◌<◌, ◌≤◌, Bool, true, false, List, [], ◌∷◌, ◌++◌, length, drop, set, sym, ap, ◌∙◌, arith, length-append}
+use Rattle.std.proofs.Common.{ℕ, Bool, sym, arith}
 use Rattle.terms.specs.Views.{terms_of}
 use Rattle.board.specs.Views.{read_of}
-use Rattle.board.specs.Asking.{wanted_test, picked}
+use Rattle.board.specs.Asking.{wanted_test}
 use Rattle.board.proofs.Picking.{picked_short, room_for_one, written_more, written_none}
 use Rattle.board.proofs.reader.Reader.write_wanted.Goals as goal
 use Rattle.board.proofs.reader.Reader.write_wanted.Goals.{then-is_wanted, else-is_wanted}
