@@ -22,7 +22,7 @@ use Rattle.saturation.specs.Answers.{TrulyUnder, Mate, Parent}
 use Rattle.saturation.specs.Deciding.{mate_test, parent_test}
 use Rattle.saturation.proofs.Deciding.{named_decides, mate_decides, parent_decides}
 use Rattle.board.specs.Layout.{room}
-use Rattle.board.specs.Questions.{Under, answer, unsettled, no_concept, SettledOr, other_terms, job_waits}
+use Rattle.board.specs.Questions.{Under, answer, unsettled, no_concept, other_terms, job_waits}
 use Rattle.sheet.specs.declared.fault.Fault.{Fault}
 use Rattle.cases.specs.Rounds.{has, closed, rounds}
 use Rattle.cases.specs.Sheets.{reading, stated}

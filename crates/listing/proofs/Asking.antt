@@ -1,10 +1,10 @@
 -- What a settled board answers, and what of it is listed.
-use Rattle.std.proofs.Common.{◌≡◌, ℕ, ◌<◌, Bool, true, false, cond, not, ◌&&◌, eqb, length, Some, None, Ok, Err, Option, Result, sym, refl, ap, ◌∙◌, inl, inr, arith}
-use Rattle.std.proofs.lemmas.Bool.{and_from, and_parts, and_right, cond-true, cond-false, ne_eqb, eq-eqb, not_from_true, not_from_false, both_ways, cases_Bool, eqb-true, not-true}
+use Rattle.std.proofs.Common.{◌≡◌, ℕ, ◌<◌, Bool, true, not, ◌&&◌, eqb, length, Some, None, Ok, Err, Result, sym, refl, ◌∙◌, inl, inr, arith}
+use Rattle.std.proofs.lemmas.Bool.{and_from, and_parts, and_right, cond-true, cond-false, ne_eqb, eq-eqb, not_from_true, not_from_false, both_ways, cases_Bool, not-true}
 use Rattle.rejections.specs.declared.Rejection.{Rejection}
 use Rattle.grades.specs.Kinds.{Kind}
 use Rattle.terms.specs.Vocabularies.{Vocabulary, Named, is_named}
-use Rattle.terms.proofs.Namings.{named_is, is_named_lem}
+use Rattle.terms.proofs.Namings.{named_is}
 use Rattle.reasoning.specs.declared.Fact.TheVariants.{Under as under}
 use Rattle.saturation.specs.Boards.{Board}
 use Rattle.board.specs.Questions.{Settled, SettledOr, settled, other_terms, job_waits, Under, answer, unsettled, no_concept}

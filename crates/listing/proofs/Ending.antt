@@ -1,15 +1,15 @@
 -- A fresh board that is run has no job waiting, and what it then lists is the truth.
-use Rattle.std.proofs.Common.{◌≡◌, ℕ, ◌+◌, ◌*◌, ◌<◌, ◌≤◌, Bool, true, false, List, [], length, Some, Ok, Err, Result, sym, refl, ap, ◌∙◌, subst, inl, inr, arith}
+use Rattle.std.proofs.Common.{◌≡◌, ℕ, ◌*◌, ◌<◌, ◌≤◌, Bool, true, false, List, [], length, Some, Ok, Err, Result, sym, refl, ap, ◌∙◌, subst, inl, inr, arith}
 use Rattle.std.proofs.lemmas.Bool.{both_ways}
 use Rattle.std.proofs.lemmas.Nat.{mul-le}
 use Rattle.rejections.specs.declared.Rejection.{Rejection}
 use Rattle.lemmas.proofs.Tests.{same_test}
 use Rattle.grades.specs.Kinds.{Kind, Lawful}
 use Rattle.piles.specs.Sets.{Numbers}
-use Rattle.terms.specs.Vocabularies.{Vocabulary, Named, WellFormed}
+use Rattle.terms.specs.Vocabularies.{Vocabulary, WellFormed}
 use Rattle.terms.proofs.Namings.{is_named_lem}
 use Rattle.reasoning.specs.declared.Fact.TheVariants.{Under as under}
-use Rattle.saturation.specs.Boards.{Board, Moment, Quiet}
+use Rattle.saturation.specs.Boards.{Board, Quiet}
 use Rattle.saturation.specs.Histories.{Event, nothing, History}
 use Rattle.saturation.specs.AnyOrder.{Promise}
 use Rattle.saturation.proofs.Numbers.{pairs_small}

@@ -1,5 +1,5 @@
 -- Rows written one behind the other.
-use Rattle.std.proofs.Common.{◌≡◌, ℕ, zero, suc, ◌+◌, ◌*◌, ◌<◌, ◌≤◌, List, [], ◌∷◌, ◌++◌, length, Some, None, Option, sym, refl, ap, ◌∙◌, append_assoc, append-nil, add-one, arith, length-append}
+use Rattle.std.proofs.Common.{◌≡◌, ℕ, ◌+◌, ◌≤◌, List, [], ◌∷◌, ◌++◌, length, Some, None, Option, sym, refl, ap, ◌∙◌, append_assoc, append-nil, add-one, arith, length-append}
 use Rattle.listing.specs.declared.page.Row.{Row}
 use Rattle.listing.specs.Pages.{row_bytes, put_at, page_of, Wrote}
 use Rattle.listing.specs.Rows.{row_of, rows_up_to, all_rows}

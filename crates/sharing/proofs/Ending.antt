@@ -1,13 +1,13 @@
 -- A run after workers took turns on a fresh board ends with all the work done, and so the answer is the truth.
-use Rattle.std.proofs.Common.{◌≡◌, ℕ, ◌<◌, ◌≤◌, List, ◌++◌, length, get_or, Ok, Err, Result, sym, refl, ap, ◌∙◌, subst, subst₂, inl, inr, arith}
+use Rattle.std.proofs.Common.{◌≡◌, ℕ, ◌≤◌, List, ◌++◌, length, get_or, Ok, Err, Result, sym, ap, ◌∙◌, subst, subst₂, inl, inr, arith}
 use Rattle.std.proofs.lemmas.Bool.{both_ways}
 use Rattle.rejections.specs.declared.Rejection.{Rejection}
 use Rattle.grades.specs.Kinds.{Kind, Lawful}
 use Rattle.piles.specs.Sets.{Numbers}
-use Rattle.terms.specs.Vocabularies.{Vocabulary, Named, WellFormed}
+use Rattle.terms.specs.Vocabularies.{Vocabulary, WellFormed}
 use Rattle.reasoning.specs.declared.Fact.TheVariants.{Under as under}
-use Rattle.saturation.specs.Boards.{Board, Moment, Quiet, Sane}
-use Rattle.saturation.specs.Histories.{Event, Leads, History}
+use Rattle.saturation.specs.Boards.{Board, Sane}
+use Rattle.saturation.specs.Histories.{Event, History}
 use Rattle.saturation.specs.AnyOrder.{AllDone, Promise}
 use Rattle.saturation.proofs.Numbers.{pairs_small}
 use Rattle.saturation.proofs.Finish.{join_leads, runs_lead, runs_finish, balanced_rested}

@@ -1,15 +1,14 @@
 -- How the calls of workers lead on, one after another.
-use Rattle.std.proofs.Common.{◌≡◌, ℕ, ◌+◌, ◌<◌, Bool, true, false, cond, eqb, List, [], ◌∷◌, ◌++◌, length, Ok, Err, Result, sym, refl, ap, ◌∙◌, subst, subst₂, inl, inr, arith}
-use Rattle.std.proofs.lemmas.Bool.{cases_eq, eq-eqb, ne_eqb, false≢true}
+use Rattle.std.proofs.Common.{◌≡◌, ℕ, Bool, true, false, cond, eqb, List, [], ◌∷◌, ◌++◌, length, Ok, Err, Result, sym, refl, ap, ◌∙◌, subst, subst₂, inl, inr, arith}
+use Rattle.std.proofs.lemmas.Bool.{cases_eq, eq-eqb, ne_eqb}
 use Rattle.rejections.specs.declared.Rejection.{Rejection}
 use Rattle.grades.specs.Kinds.{Kind}
 use Rattle.piles.specs.Sets.{Numbers}
 use Rattle.terms.specs.Vocabularies.{Vocabulary}
 use Rattle.reasoning.specs.declared.Job.{Job}
-use Rattle.saturation.specs.declared.State.TheVariants.{Queued, Held}
-use Rattle.saturation.specs.Boards.{Board, Moment, Sane}
-use Rattle.saturation.specs.Effects.{SameGrades, Took, Lowered, Rechecked, Unchanged}
-use Rattle.saturation.specs.Histories.{Event, took, worked, lowered, rechecked, other, Leads, nothing, and_then, granted, given_back, unrechecked}
+use Rattle.saturation.specs.Boards.{Sane}
+use Rattle.saturation.specs.Effects.{Took, Lowered, Rechecked}
+use Rattle.saturation.specs.Histories.{Event, took, worked, lowered, rechecked, other, nothing, and_then, unrechecked}
 use Rattle.saturation.proofs.Places.{idle≢held, held≢queued}
 use Rattle.saturation.proofs.Finish.{join_leads, granted_of, given_back_of}
 use Rattle.board.specs.declared.board.OpenBoard.{OpenBoard}
@@ -17,7 +16,6 @@ use Rattle.board.specs.declared.tokens.Lease.{Lease}
 use Rattle.board.specs.Views.{board_of, moment_of}
 use Rattle.board.specs.Frames.{Framed, Kept}
 use Rattle.board.specs.Raises.{Ready}
-use Rattle.board.specs.Refusals.{IsHeld}
 use Rattle.board.specs.Calls.{StaysSane, Taken, Stepped}
 use Rattle.board.proofs.Frames.{kept_same, kept_then, kept_framed, ready_kept}
 use Rattle.sharing.specs.Sharing.{Going, Onward, GaveBack, TookTurns}

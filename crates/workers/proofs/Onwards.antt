@@ -1,12 +1,12 @@
 -- Each call on a board that goes leads on by its own event.
-use Rattle.std.proofs.Common.{◌≡◌, ℕ, List, [], ◌∷◌, ◌++◌, length, Ok, Err, Result, sym, refl, ap, ◌∙◌, subst}
+use Rattle.std.proofs.Common.{◌≡◌, ℕ, List, [], ◌∷◌, ◌++◌, Ok, Err, Result, sym, refl, ap, ◌∙◌, subst}
 use Rattle.rejections.specs.declared.Rejection.{Rejection}
 use Rattle.grades.specs.Kinds.{Kind}
 use Rattle.piles.specs.Sets.{Numbers}
 use Rattle.terms.specs.Vocabularies.{Vocabulary}
 use Rattle.reasoning.specs.declared.Job.{Job}
-use Rattle.saturation.specs.Boards.{Board, Moment, Sane}
-use Rattle.saturation.specs.Effects.{Took, Lowered, Unchanged}
+use Rattle.saturation.specs.Boards.{Board, Sane}
+use Rattle.saturation.specs.Effects.{Took, Lowered}
 use Rattle.saturation.specs.Histories.{Event, took, worked, lowered, rechecked, other, Leads, nothing, and_then, History}
 use Rattle.board.specs.declared.board.OpenBoard.{OpenBoard}
 use Rattle.board.specs.declared.board.running.Ran.{Ran}

@@ -1,9 +1,7 @@
-use Rattle.std.proofs.Common.{◌≡◌, ◌<◌, sym, ◌∙◌, subst, arith}
+use Rattle.std.proofs.Common.{◌<◌, subst, arith}
 use Rattle.terms.specs.Views.{terms_of}
-use Rattle.saturation.specs.declared.State.TheVariants.{Held}
-use Rattle.board.specs.Views.{board_of}
 use Rattle.sharing.specs.Sharing.{TookTurns}
-use Rattle.sharing.proofs.Turning.{goes_on, turns_then, no_turns, not_taken, stepped, whole_turn}
+use Rattle.sharing.proofs.Turning.{turns_then, no_turns, not_taken, stepped, whole_turn}
 use Rattle.sharing.proofs.+work.Goals as goal
 
 pub returns-then-workers-eq0 : goal.returns-then-workers-eq0

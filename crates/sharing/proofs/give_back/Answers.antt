@@ -1,4 +1,4 @@
-use Rattle.std.proofs.Common.{◌≡◌, subst, arith}
+use Rattle.std.proofs.Common.{subst, arith}
 use Rattle.terms.specs.Views.{terms_of}
 use Rattle.saturation.specs.Effects.{Rechecked}
 use Rattle.board.specs.Views.{board_of, moment_of}

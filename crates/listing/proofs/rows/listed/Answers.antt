@@ -1,4 +1,4 @@
-use Rattle.std.proofs.Common.{◌≡◌, ℕ, Some, None, Ok, Err, Option, Result, sym, ap, ◌∙◌, arith}
+use Rattle.std.proofs.Common.{◌≡◌, ℕ, Some, sym, ap, ◌∙◌, arith}
 use Rattle.terms.specs.Views.{terms_of}
 use Rattle.terms.proofs.Namings.{named_is}
 use Rattle.reasoning.specs.declared.Fact.TheVariants.{Under as under}

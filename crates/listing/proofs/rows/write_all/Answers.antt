@@ -1,4 +1,4 @@
-use Rattle.std.proofs.Common.{◌≡◌, ℕ, ◌+◌, ◌*◌, ◌≤◌, List, [], ◌∷◌, ◌++◌, length, Option, sym, refl, ap, ◌∙◌, subst, mul-le-mul_left, mul-add, arith}
+use Rattle.std.proofs.Common.{ℕ, ◌+◌, ◌*◌, ◌≤◌, List, [], ◌++◌, length, Option, refl, mul-le-mul_left, mul-add, arith}
 use Rattle.terms.specs.Views.{terms_of}
 use Rattle.board.specs.Views.{closed_of}
 use Rattle.listing.specs.Rows.{rows_up_to, all_rows, code_to_list}

@@ -1,4 +1,4 @@
-use Rattle.std.proofs.Common.{◌≡◌, ℕ, ◌+◌, ◌*◌, ◌≤◌, List, [], ◌∷◌, ◌++◌, length, Some, None, Option, sym, ap, ◌∙◌, subst, arith}
+use Rattle.std.proofs.Common.{ℕ, ◌+◌, ◌*◌, [], ◌∷◌, ◌++◌, Option, sym, arith}
 use Rattle.listing.specs.declared.page.Row.{Row}
 use Rattle.terms.specs.Views.{terms_of}
 use Rattle.board.specs.Views.{closed_of}

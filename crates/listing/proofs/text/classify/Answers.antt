@@ -1,9 +1,8 @@
-use Rattle.std.proofs.Common.{◌≡◌, ◌≤◌, sym, ap, ◌∙◌, subst, arith}
+use Rattle.std.proofs.Common.{◌≤◌, sym, ◌∙◌, subst, arith}
 use Rattle.terms.specs.Views.{terms_of}
 use Rattle.terms.proofs.Formed.{well_formed}
 use Rattle.saturation.specs.Boards.{Board, Quiet}
 use Rattle.saturation.specs.Histories.{History}
-use Rattle.piles.specs.Sets.{Numbers}
 use Rattle.listing.proofs.Ending.{run_ends}
 use Rattle.listing.proofs.text.classify.Goals as goal
 

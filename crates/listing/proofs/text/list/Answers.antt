@@ -1,4 +1,4 @@
-use Rattle.std.proofs.Common.{◌≡◌, ℕ, ◌≤◌, length, Ok, Err, sym, refl, ap, ◌∙◌, subst, ap₂, arith, length-take}
+use Rattle.std.proofs.Common.{◌≡◌, length, Err, sym, refl, ap, ◌∙◌, subst, ap₂, arith, length-take}
 use Rattle.terms.specs.declared.tally.Room.{Room}
 use Rattle.terms.specs.Counting.{room_for}
 use Rattle.terms.specs.Lent.{room_of}
