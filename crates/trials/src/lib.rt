@@ -8,6 +8,7 @@ mod tests {
     use reference::{expected_output, first_fault};
     use sheet::fault::Layer;
     use sheet::read;
+    use std::alloc::{AllocError, Global};
     use std::test::*;
     use terms::records::{Concept, Inclusion};
     use terms::terms::Terms;
@@ -17,32 +18,29 @@ mod tests {
 
     const INCLUSIONS: usize = 200;
 
-    // What the library answers for a text is what the other classifier expects, byte by byte.
-    fn agree(rt: &HostRuntime, text: &[u8], page: &mut [u8; PAGE]) -> Result<(), Fail> {
-        let expected = expected_output(rt.alloc(), text)?;
+    // Whether the library answers for a text what the other classifier expects, byte by byte.
+    fn agrees(heap: Global, text: &[u8], page: &mut [u8; PAGE]) -> Result<bool, AllocError> {
+        let expected = expected_output(heap, text)?;
         match list(text, page) {
-            Ok(size) => {
-                assert!(&page[0..size] == expected.as_slice());
-                Ok(())
-            },
-            Err(trouble) => {
-                assert!(&trouble.line() == expected.as_slice());
-                Ok(())
-            },
+            Ok(size) => Ok(&page[0..size] == expected.as_slice()),
+            Err(trouble) => Ok(trouble.line().as_slice() == expected.as_slice()),
         }
     }
 
-    // Sheets of up to so many concepts, each once whole and once damaged.
-    fn compare(rt: &HostRuntime, seed: u64, rounds: u32, size: Size) -> Result<(), Fail> {
+    // Whether all agree of sheets of up to so many concepts, each once whole and once damaged.
+    fn all_agree(heap: Global, seed: u64, rounds: u32, size: Size) -> Result<bool, AllocError> {
         let mut random = Random::seeded(seed);
         let mut page = [0; PAGE];
         for _ in 0..rounds {
-            let sheet = random_sheet(rt.alloc(), &mut random, size)?;
-            agree(rt, sheet.as_slice(), &mut page)?;
-            let broken = damaged(rt.alloc(), &mut random, sheet.as_slice())?;
-            agree(rt, broken.as_slice(), &mut page)?;
+            let sheet = random_sheet(heap, &mut random, size)?;
+            let broken = damaged(heap, &mut random, sheet.as_slice())?;
+            if !agrees(heap, sheet.as_slice(), &mut page)?
+                || !agrees(heap, broken.as_slice(), &mut page)?
+            {
+                return Ok(false);
+            }
         }
-        Ok(())
+        Ok(true)
     }
 
     #[test]
@@ -53,7 +51,7 @@ mod tests {
             inclusions: 6,
             most_code: 66,
         };
-        compare(&rt, 1, 1500, size)?;
+        assert!(rt; all_agree(rt.alloc(), 1, 1500, size)?);
         println!(rt; "small sheets compared: 3000")?;
         Ok(())
     }
@@ -66,7 +64,7 @@ mod tests {
             inclusions: 22,
             most_code: 64,
         };
-        compare(&rt, 2, 500, size)?;
+        assert!(rt; all_agree(rt.alloc(), 2, 500, size)?);
         println!(rt; "larger sheets compared: 1000")?;
         Ok(())
     }

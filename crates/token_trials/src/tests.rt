@@ -1,26 +1,17 @@
-//! Every rejection of taking, stepping, lowering and rechecking at its edge: the last value that is accepted, the first that is rejected,
-//! the first of two faults, and that nothing was altered. This is a program and no test, since a token that no board accepted could then
-//! still be handed on: `main` ends with it as its error.
-#![tactic(auto)]
-
-mod hands;
-mod lines;
-mod playing;
-mod score;
-mod scripts;
-
+//! Playing the scripts on boards over a sheet, one with a concept more and one with a role more.
+use crate::hands::Trouble;
+use crate::lines::Line;
+use crate::playing::play;
+use crate::score::Score;
+use crate::scripts::{EXCHANGED, NOT_HELD, OWN_LEASE, TOO_HIGH};
 use grades::kind::GradeKind;
 use grades::plain::Plain;
-use hands::Trouble;
-use lines::Line;
 use piles::marks::Marks;
 use piles::pile::Pile;
 use piles::ring::Ring;
-use playing::play;
-use score::Score;
-use scripts::{EXCHANGED, NOT_HELD, OWN_LEASE, TOO_HIGH};
 use sheet::read;
 use std::alloc::Global;
+use std::test::*;
 use terms::records::{Concept, Inclusion};
 use terms::terms::Terms;
 
@@ -141,14 +132,19 @@ fn with_sheet(heap: Global, score: &mut Score) -> Result<(), Trouble> {
     with_wider(heap, &terms, score)
 }
 
-fn main(rt: HostRuntime) -> Result<(), Trouble> {
+/// A token that no board accepts may not be let go, so the test stops with it.
+#[test]
+fn each_call_answers_as_the_script_says(rt: HostRuntime) -> Result<(), Fail> {
     let mut score = Score::none();
-    with_sheet(rt.alloc(), &mut score)?;
-    if let Some(number) = score.wrong() {
-        let _ = println!(rt; "answer {number} is not as it must be");
-        return Err(Trouble::Wrong);
+    match with_sheet(rt.alloc(), &mut score) {
+        Ok(()) => {}
+        Err(Trouble::Wrong) => panic!(rt; "a sheet is not read"),
+        Err(Trouble::Kept(_kept)) => panic!(rt; "no board accepts a token"),
+        Err(Trouble::Memory) => panic!(rt; "no memory"),
     }
+    assert_eq!(rt; score.wrong(), None);
     let count = score.count();
-    let _ = println!(rt; "answers checked: {count}");
+    println!(rt; "answers checked: {count}")?;
+    assert_eq!(rt; count, 193);
     Ok(())
 }
