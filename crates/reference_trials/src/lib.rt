@@ -120,10 +120,10 @@ mod tests {
         let table = saturate(heap, &child, Kind::Plain)?;
         assert!(rt; table.job_points(&child) == 3);
         assert!(rt; mates(heap, &table, &child, 0, 0)?.is_empty());
-        assert!(rt; parents(heap, &table, &child, 0, 0)?.as_slice() == &[1]);
+        assert!(rt; parents(heap, &table, &child, 0, 0)?.as_slice() == [1].as_slice());
         let mate = vocabulary(heap, b"A\nA\nS     0     1     1\nS     1     0     1\n")?;
         let table = saturate(heap, &mate, Kind::Plain)?;
-        assert!(rt; mates(heap, &table, &mate, 0, 0)?.as_slice() == &[1]);
+        assert!(rt; mates(heap, &table, &mate, 0, 0)?.as_slice() == [1].as_slice());
         assert!(rt; parents(heap, &table, &mate, 0, 0)?.is_empty());
         Ok(())
     }

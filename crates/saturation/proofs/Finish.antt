@@ -15,7 +15,7 @@ use Rattle.saturation.specs.Boards.{Moment, Quiet}
 use Rattle.saturation.specs.Effects.{Made}
 use Rattle.saturation.specs.Histories.{Event, took, worked, lowered, rechecked, other, Leads, nothing, and_then, History, granted, given_back, unrechecked, held_one, held_count}
 use Rattle.saturation.specs.Runs.{Exhausts, NothingToTake, Runs}
-use Rattle.saturation.specs.AnyOrder.{possible_pairs, FreshRunFinishes, Rested, AllDone, RunsFinish, RunsLead}
+use Rattle.saturation.specs.AnyOrder.{possible_pairs, FreshRunFinishes, QueuedWaits, Rested, AllDone, RunsFinish, RunsLead}
 use Rattle.saturation.proofs.Numbers.{Possible, few_pairs, pairs_small}
 use Rattle.saturation.proofs.Good.{Tally, Gap, gap}
 use Rattle.saturation.proofs.Kept.{Kept, kept_step, kept_since}
@@ -232,3 +232,6 @@ runs_finish k lawful v wf = (made_rested k lawful v wf, run_does_all k lawful v 
 pub fresh_run_finishes : FreshRunFinishes
 fresh_run_finishes k lawful v wf a b made budget steps o es l run =
     (runs_out k lawful v wf run (record { kept = kept_since v wf k lawful made nothing; balanced = refl; checked = λ x. refl }) (let z = made.no_steps in omega arith)).0
+
+pub queued_waits : QueuedWaits
+queued_waits k lawful v wf es m h = (kept_since v wf k lawful h.made h.led).busy

@@ -11,7 +11,7 @@ use Rattle.reasoning.specs.Derivations.{Within, JobAt, fact_of, Derivable}
 use Rattle.saturation.specs.declared.State.TheVariants.{Idle, Queued, Held}
 use Rattle.saturation.specs.declared.Outcome.{Outcome}
 use Rattle.saturation.specs.declared.Outcome.TheVariants.{Finished}
-use Rattle.saturation.specs.Boards.{Moment, Waits, Quiet, Sane}
+use Rattle.saturation.specs.Boards.{Moment, Waits, Quiet, QuietAt, Sane}
 use Rattle.saturation.specs.Effects.{Made}
 use Rattle.saturation.specs.Histories.{Event, Leads, History, granted, given_back, unrechecked, held_count}
 use Rattle.saturation.specs.Runs.{Runs}
@@ -67,6 +67,11 @@ possible_pairs v k = (((2 + v.roles) * length v.concepts) * length v.concepts) *
 abbrev pub FreshRunFinishes : Type 0
 FreshRunFinishes = (k : Kind) → Lawful k → (v : Vocabulary) → WellFormed v → (a b : Moment) → Made v k a →
     (budget steps : ℕ) (o : Outcome) (es : List Event) → possible_pairs v k ≤ budget → Runs v k budget o steps es a b → o ≡ Finished
+
+-- whatever led there, a job waits at each queued concept
+abbrev pub QueuedWaits : Type 0
+QueuedWaits = (k : Kind) → Lawful k → (v : Vocabulary) → WellFormed v → (es : List Event) (m : Moment) → History v k es m →
+    (c : ℕ) → c < length v.concepts → m.board.state c ≡ Queued → ¬ QuietAt v m.board c
 
 -- no concept is held, and none is lowered without its recheck
 pub record Rested (v : Vocabulary) (es : List Event) (m : Moment) : Type 0 where

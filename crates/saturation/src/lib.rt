@@ -3,7 +3,7 @@
 #![tactic(auto)]
 
 ghost use Rattle.saturation.specs.Answers.{QuietAnswersTrue};
-ghost use Rattle.saturation.specs.AnyOrder.{AnyOrder, FreshRunFinishes, RunsFinish, RunsLead};
+ghost use Rattle.saturation.specs.AnyOrder.{AnyOrder, FreshRunFinishes, QueuedWaits, RunsFinish, RunsLead};
 
 /// How a concept stands on a board.
 #[derive(Clone, Copy, PartialEq, Eq, Debug)]
@@ -52,6 +52,13 @@ pub fn runs_are_chains_of_effects() -> u8
 /// A fresh board and one run with a budget of at least the possible pairs of job and point end as finished.
 pub fn fresh_runs_finish() -> u8
     ensures { FreshRunFinishes }
+{
+    0
+}
+
+/// After any list of calls, a job waits at each queued concept.
+pub fn queued_concepts_have_work() -> u8
+    ensures { QueuedWaits }
 {
     0
 }
