@@ -80,7 +80,6 @@ def main():
                     declared[n].add(p)
     mine = {n for n in declared if needs(n) and n not in goals and TOKEN.fullmatch(n)}
     library = set()
-    kit = os.path.dirname(os.path.dirname(os.path.realpath(os.popen("rt doc").read().strip() or "/opt/rattle/x")))
     for p in files():
         with open(p, encoding="utf-8") as f:
             for line in f:

@@ -1,4 +1,4 @@
-use Rattle.std.proofs.Common.{◌≡◌, ℕ, ◌<◌, refl, ◌∙◌, arith}
+use Rattle.std.proofs.Common.{◌≡◌, ℕ, ◌<◌, refl, ◌∙◌, arith, rules}
 use Rattle.saturation.specs.declared.State.TheVariants.{Queued}
 use Rattle.board.specs.declared.board.states.Change.TheVariants.{Take}
 use Rattle.board.specs.Views.{board_of}
@@ -14,8 +14,11 @@ returns-then-size-self g c = record { kept = kept_same; sane = λ S. S; taken = 
 
 pub returns-in_default : goal.returns-in_default
 returns-in_default g c =
-    let D = c.in_default.ensures.set in
-    record { kept = record { frame = framed_same; size = D.0 }; sane = λ S. S; taken = (TakeRejected.empty_pile (omega arith) D.1, refl, D.2, λ e. let z : ◌≡◌ {A = ℕ} 0 1 = cc in absurd (omega arith)) }
+    record {
+      kept = record { frame = framed_same; size = search rules };
+      sane = λ S. S;
+      taken = (TakeRejected.empty_pile (omega arith) (search rules), refl, search rules, λ e. let z : ◌≡◌ {A = ℕ} 0 1 = cc in absurd (omega arith));
+    }
 
 pub returns : goal.returns
 returns g c =
