@@ -68,7 +68,7 @@ abbrev pub FreshRunFinishes : Type 0
 FreshRunFinishes = (k : Kind) → Lawful k → (v : Vocabulary) → WellFormed v → (a b : Moment) → Made v k a →
     (budget steps : ℕ) (o : Outcome) (es : List Event) → possible_pairs v k ≤ budget → Runs v k budget o steps es a b → o ≡ Finished
 
--- whatever led there, a job waits at each queued concept
+-- whatever led there, no queued concept is quiet: work waits at it
 abbrev pub QueuedWaits : Type 0
 QueuedWaits = (k : Kind) → Lawful k → (v : Vocabulary) → WellFormed v → (es : List Event) (m : Moment) → History v k es m →
     (c : ℕ) → c < length v.concepts → m.board.state c ≡ Queued → ¬ QuietAt v m.board c

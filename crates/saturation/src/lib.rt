@@ -56,7 +56,7 @@ pub fn fresh_runs_finish() -> u8
     0
 }
 
-/// After any list of calls, a job waits at each queued concept.
+/// After any list of calls, no queued concept is quiet.
 pub fn queued_concepts_have_work() -> u8
     ensures { QueuedWaits }
 {

@@ -48,7 +48,7 @@ impl<'a> Pile for Ring<'a> {
         ensures kept { RestKept self.old.list self.new.list }
     {
         let i = x as usize;
-        // By the impl's name, since `self.size()` would ask a borrowed pile.
+        // By the type, since `self.size()` would ask a borrowed pile.
         if i >= <Ring<'_> as Pile>::size(self) {
             return Err(Rejection::NotBelowSize);
         }

@@ -23,7 +23,8 @@ returns-then-code-none g c =
     let j = named_is v c.args.d (sym c.if-not-is_named-2.ensures) in
     let q = answered c.requires i j.0 c.under.ensures.answer in
     let e : c.in-Ok.code ≡ b.found (under c.args.a c.args.d) = cc (c.in-Ok.is, q) in
-    sym (lists_none v g.K.GradeKind.kind b c.args.a c.args.d (sym e ∙ c.if-code-none.true ∙ c.none.ensures))
+    let z : c.in-Ok.code ≡ c.none.result = omega arith in
+    sym (lists_none v g.K.GradeKind.kind b c.args.a c.args.d (sym e ∙ z ∙ c.none.ensures))
 
 pub returns-else-code-none : goal.returns-else-code-none
 returns-else-code-none g c =
@@ -35,4 +36,4 @@ returns-else-code-none g c =
     let j = named_is v c.args.d nd in
     let q = answered c.requires i j.0 c.under.ensures.answer in
     let e : c.in-Ok.code ≡ b.found (under c.args.a c.args.d) = cc (c.in-Ok.is, q) in
-    ap Some e ∙ sym (lists v g.K.GradeKind.kind b c.args.a c.args.d c.if-a-d.false na nd (λ h. c.if-code-none.false (e ∙ h ∙ sym c.none.ensures)))
+    ap Some e ∙ sym (lists v g.K.GradeKind.kind b c.args.a c.args.d c.if-a-d.false na nd (λ h. let z = e ∙ h ∙ sym c.none.ensures in absurd (omega arith)))

@@ -1,4 +1,4 @@
-use Rattle.std.proofs.Common.{◌≡◌, ℕ, length, sym, ap, ◌∙◌, subst}
+use Rattle.std.proofs.Common.{◌≡◌, ℕ, length, sym, ap, ◌∙◌, subst, arith}
 use Rattle.terms.specs.declared.records.Concept.{Concept}
 use Rattle.terms.specs.declared.records.Concept.TheVariants.{Restriction}
 use Rattle.terms.specs.Vocabularies.{Is}
@@ -19,7 +19,7 @@ returns-in_default c =
 
 pub returns-then-b-c : goal.returns-then-b-c
 returns-then-b-c c =
-    best_same (terms_of c.args.terms.now) (read_of c.args.self.now) c.args.c c.args.x c.args.best c.requires.best (λ r i. absurd (c.if-b-c.true (one_filler (sym c.in-Restriction.ensures) i.1)))
+    best_same (terms_of c.args.terms.now) (read_of c.args.self.now) c.args.c c.args.x c.args.best c.requires.best (λ r i. let e = one_filler (sym c.in-Restriction.ensures) i.1 in absurd (omega arith))
 
 pub returns-in-Some-first_in : goal.returns-in-Some-first_in
 returns-in-Some-first_in c =
