@@ -1,6 +1,8 @@
-use Rattle.std.proofs.Common.{◌≡◌, ◌+◌, ◌-◌, ◌^◌, min, length, sym, refl, ap, ◌∙◌, subst, subst₂, arith}
+use Rattle.std.proofs.Common.{◌≡◌, ℕ, ◌+◌, ◌-◌, ◌^◌, min, length, sym, refl, ap, ◌∙◌, subst, subst₂, arith}
+use Rattle.terms.specs.Vocabularies.{Vocabulary}
 use Rattle.terms.specs.Views.{terms_of}
 use Rattle.terms.proofs.Formed.{well_formed}
+use Rattle.reasoning.specs.declared.Fact.{Fact}
 use Rattle.reasoning.specs.Derivations.{Within, Fits, fact_of}
 use Rattle.reasoning.proofs.Jobs.{at_within}
 use Rattle.board.specs.Views.{board_of, moment_of}
@@ -13,20 +15,24 @@ use Rattle.board.proofs.Jobs.{job_done, job_cases, job_draws}
 use Rattle.board.proofs.Working.{did}
 use Rattle.board.proofs.board.OpenBoard.work.Goals as goal
 
+-- what lies within a vocabulary fits its counts
+fits : (v : Vocabulary) {n m : ℕ} (f : Fact) → n ≡ length v.concepts → m ≡ v.roles → Within v f → Fits n m f
+fits v f e d w = subst₂ (λ n m. Fits n m f) (sym e) (sym d) w
+
 pub found-grade-requires : goal.found-grade-requires
 found-grade-requires g c =
     subst (λ f. Fits c.args.self.now.concepts c.args.self.now.roles f) (sym c.fact_of.ensures)
-    (subst₂ (λ n m. Fits n m (fact_of c.in-Some.job)) (sym c.requires.ready.concepts) (sym c.requires.ready.roles) (at_within _ c.in-Some.ensures.at))
+    (fits (terms_of c.args.terms.now) (fact_of c.in-Some.job) c.requires.ready.concepts c.requires.ready.roles (at_within _ c.in-Some.ensures.at))
 
 pub write_done-requires : goal.write_done-requires
 write_done-requires g c =
-    subst₂ (λ n m. Fits n m (fact_of c.in-Some.job)) (sym c.requires.ready.concepts) (sym c.requires.ready.roles) (at_within _ c.in-Some.ensures.at)
+    fits (terms_of c.args.terms.now) (fact_of c.in-Some.job) (omega (arith, c.requires.ready.concepts)) (omega (arith, c.requires.ready.roles)) (at_within _ c.in-Some.ensures.at)
 
 pub draw-requires : goal.draw-requires
 draw-requires g c =
-    let F = c.write_done.ensures.frame in
+    let R = c.requires.ready in
     record {
-      ready = record { concepts = F.concepts ∙ c.requires.ready.concepts; roles = F.roles ∙ c.requires.ready.roles; wide = omega (arith, F.concepts, c.requires.ready.wide) };
+      ready = record { concepts = omega (arith, R.concepts); roles = omega (arith, R.roles); wide = omega (arith, R.wide) };
       within = at_within _ c.in-Some.ensures.at;
     }
 
