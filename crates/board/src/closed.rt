@@ -2,8 +2,6 @@
 ghost use Rattle.std.specs.Prelude.{◌≤◌, length};
 ghost use Rattle.board.specs.Layout.{room, StateWords};
 
-use grades::kind::GradeKind;
-
 mod questions;
 mod reading;
 
