@@ -22,7 +22,8 @@ use Rattle.board.specs.Refusals.{InOrder, MakeRejected}
 use Rattle.board.specs.Calls.{MadeBy, MadeEmpty, RanBy, SameBoard}
 use Rattle.board.proofs.Frames.{kept_then}
 use Rattle.board.proofs.Running.{unready}
-use Rattle.sharing.specs.Sharing.{Going, TookTurns, WorkDone, Truthful, Untouched}
+use Rattle.workers.specs.Sharing.{Truthful}
+use Rattle.sharing.specs.Sharing.{Going, TookTurns, WorkDone, Untouched}
 
 module _ {X Y : Type 0} (k : Kind) (lawful : Lawful k) (v : Vocabulary) (wf : WellFormed v) (numbers : Y → Numbers) (words : List ℕ) where
   -- a board that was just made goes

@@ -1,5 +1,5 @@
 -- What workers that share a board lead to.
-use Rattle.std.specs.Prelude.{◌≡◌, ℕ, ◌<◌, ◌≤◌, true, false, List, [], ◌∷◌, length, ◌≢◌, slice_index}
+use Rattle.std.specs.Prelude.{◌≡◌, ℕ, ◌<◌, ◌≤◌, false, List, [], ◌∷◌, length, ◌≢◌, slice_index}
 use Rattle.grades.specs.Kinds.{Kind}
 use Rattle.piles.specs.Sets.{Numbers}
 use Rattle.terms.specs.Vocabularies.{Vocabulary, Named}
@@ -8,13 +8,13 @@ use Rattle.saturation.specs.declared.State.TheVariants.{Held}
 use Rattle.saturation.specs.Boards.{Moment, Sane}
 use Rattle.saturation.specs.Histories.{Event, lowered, rechecked, Leads, History, granted, given_back, unrechecked}
 use Rattle.saturation.specs.AnyOrder.{AllDone}
-use Rattle.saturation.specs.Answers.{TrulyUnder}
 use Rattle.board.specs.declared.board.OpenBoard.{OpenBoard}
 use Rattle.board.specs.declared.closed.ClosedBoard.{ClosedBoard}
 use Rattle.board.specs.Layout.{room}
 use Rattle.board.specs.Views.{board_of, closed_of, moment_of}
 use Rattle.board.specs.Frames.{Kept}
 use Rattle.board.specs.Raises.{Ready}
+use Rattle.workers.specs.Sharing.{Truthful}
 
 -- the board has the vocabulary's counts and sane grades, and the pile has room for its concepts
 pub record Going {X Y : Type 0} (v : Vocabulary) (k : Kind) (numbers : Y → Numbers) (a : OpenBoard X) (p : Y) : Type 0 where
@@ -39,10 +39,6 @@ pub record TookTurns {X Y : Type 0} (v : Vocabulary) (k : Kind) (numbers : Y →
   pub balanced : granted events ≡ given_back events
   pub looked_at : (c : ℕ) → unrechecked c events ≡ false
   pub held : (x : ℕ) → x < length v.concepts → (board_of a).state x ≡ Held → (board_of b).state x ≡ Held
-
--- the grade holds a point exactly when a lies inside d in every finite model there
-abbrev pub Truthful : Vocabulary → Kind → ℕ → ℕ → ℕ → Type 0
-Truthful v k a d g = (p : ℕ) → p < k.points → (k.holds g p ≡ true → TrulyUnder v k p a d) × (TrulyUnder v k p a d → k.holds g p ≡ true)
 
 -- what a closed board and a pile say
 abbrev pub closed_moment : {X Y : Type 0} → (Y → Numbers) → ClosedBoard X → Y → Moment
