@@ -8,45 +8,45 @@ ghost use Rattle.rejections.specs.Numbers.{number_of};
 #[derive(Clone, Copy, PartialEq, Eq, Debug)]
 pub enum Rejection {
     /// The text's length is no multiple of 20.
-    UnfinishedLine,
+    UnfinishedLine = 1,
     /// Column 1 of a line has another letter than A, T, N, E, R, I, P or S.
-    UnknownLetter,
+    UnknownLetter = 2,
     /// A field is not blank, or is no number, where it must be.
-    BadField,
+    BadField = 3,
     /// Column 20 of a line has no line feed.
-    NoLineFeed,
+    NoLineFeed = 4,
     /// A number names no earlier concept or role.
-    UnknownName,
+    UnknownName = 5,
     /// A line goes beyond a fixed limit or the caller's list.
-    BeyondLimit,
+    BeyondLimit = 6,
     /// A number put into a pile is not below the pile's size.
-    NotBelowSize,
+    NotBelowSize = 7,
     /// An inclusion's code is not below the kind's count of codes.
-    ForeignCode,
+    ForeignCode = 8,
     /// The words handed over are too few for a board.
-    TooFewWords,
+    TooFewWords = 9,
     /// The pile handed over for a board is too small, or is not empty.
-    UnfitPile,
+    UnfitPile = 10,
     /// The terms have another count of concepts or roles than the board.
-    OtherTerms,
+    OtherTerms = 11,
     /// The pile's size is below the board's count of concepts.
-    SmallPile,
+    SmallPile = 12,
     /// The pile holds nothing to take.
-    EmptyPile,
+    EmptyPile = 13,
     /// The number drawn from the pile is not queued on this board.
-    NotQueued,
+    NotQueued = 14,
     /// The token names a concept that is not held or, at a recheck, that the board does not have.
-    UnfitLease,
+    UnfitLease = 15,
     /// No job waits at the lease's concept.
-    NothingWaits,
+    NothingWaits = 16,
     /// A job still waits, so the board has no final answer.
-    JobWaits,
+    JobWaits = 17,
     /// There is no such concept, or it is not atomic where it must be.
-    NoSuchConcept,
+    NoSuchConcept = 18,
     /// The kind of grade lacks the point.
-    NoSuchPoint,
+    NoSuchPoint = 19,
     /// The caller's list is shorter than the answer.
-    ShortList,
+    ShortList = 20,
 }
 
 impl Rejection {
@@ -54,27 +54,6 @@ impl Rejection {
     pub fn number(self) -> u16
         ensures { result ≡ number_of self }
     {
-        match self {
-            Rejection::UnfinishedLine => 1,
-            Rejection::UnknownLetter => 2,
-            Rejection::BadField => 3,
-            Rejection::NoLineFeed => 4,
-            Rejection::UnknownName => 5,
-            Rejection::BeyondLimit => 6,
-            Rejection::NotBelowSize => 7,
-            Rejection::ForeignCode => 8,
-            Rejection::TooFewWords => 9,
-            Rejection::UnfitPile => 10,
-            Rejection::OtherTerms => 11,
-            Rejection::SmallPile => 12,
-            Rejection::EmptyPile => 13,
-            Rejection::NotQueued => 14,
-            Rejection::UnfitLease => 15,
-            Rejection::NothingWaits => 16,
-            Rejection::JobWaits => 17,
-            Rejection::NoSuchConcept => 18,
-            Rejection::NoSuchPoint => 19,
-            Rejection::ShortList => 20,
-        }
+        self as u16
     }
 }
