@@ -34,10 +34,10 @@ impl GradeKind for Plain {
     }
 
     fn join(a: u16, b: u16) -> u16 {
-        if a == 1 || b == 1 { 1 } else { 0 }
+        u16::from(a == 1 || b == 1)
     }
 
     fn meet(a: u16, b: u16) -> u16 {
-        if a == 1 && b == 1 { 1 } else { 0 }
+        u16::from(a == 1 && b == 1)
     }
 }

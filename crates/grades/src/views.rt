@@ -30,11 +30,7 @@ impl GradeKind for Views {
     }
 
     fn holds(code: u16, point: u8) -> bool {
-        if point < 16 {
-            (code >> point) % 2 == 1
-        } else {
-            false
-        }
+        point < 16 && (code >> point) % 2 == 1
     }
 
     fn join(a: u16, b: u16) -> u16 {
