@@ -2,7 +2,7 @@
 use crate::records::{Concept, Inclusion};
 
 /// What one line states.
-#[derive(Clone, Copy)]
+#[derive(Clone, Copy, PartialEq, Eq, Debug)]
 pub enum Entry {
     /// A concept, which takes the next number.
     Concept(Concept),

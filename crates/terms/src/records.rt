@@ -1,9 +1,10 @@
 //! The plain records that a vocabulary is made of.
 
 /// A concept, by the way in which it is made. Concepts and roles go by their numbers, from 0.
-#[derive(Clone, Copy)]
+#[derive(Clone, Copy, PartialEq, Eq, Debug, Default)]
 pub enum Concept {
     /// A concept that has only a name.
+    #[default]
     Atomic,
     /// The concept of everything.
     Top,
@@ -14,7 +15,7 @@ pub enum Concept {
 }
 
 /// The statement that one concept lies inside another, at the points of a code.
-#[derive(Clone, Copy)]
+#[derive(Clone, Copy, PartialEq, Eq, Debug, Default)]
 pub struct Inclusion {
     pub sub: u16,
     pub sup: u16,

@@ -15,14 +15,14 @@ pub const MOST_ROLES: usize = 32;
 pub const MOST_INCLUSIONS: usize = 4096;
 
 /// How many concepts and inclusions there may be.
-#[derive(Clone, Copy)]
+#[derive(Clone, Copy, PartialEq, Eq, Debug)]
 pub struct Room {
     pub concepts: usize,
     pub inclusions: usize,
 }
 
 /// How many concepts, roles and inclusions there are, and how many there may be.
-#[derive(Clone, Copy)]
+#[derive(Clone, Copy, PartialEq, Eq, Debug)]
 pub struct Tally {
     pub concepts: usize,
     pub roles: usize,

@@ -34,31 +34,20 @@ impl<'a> Terms<'a> {
     pub fn is_below(&self, r: usize, s: usize) -> bool
         ensures { result ≡ (terms_of self.now).below r s }
     {
-        if r < 32 && s < 32 {
-            (self.order[r] >> s) % 2 == 1
-        } else {
-            false
-        }
+        r < 32 && s < 32 && (self.order[r] >> s) % 2 == 1
     }
 
     /// Whether the role is transitive; false for a number that is no role.
     pub fn is_transitive(&self, r: usize) -> bool
         ensures { result ≡ (terms_of self.now).transitive r }
     {
-        if r < 32 {
-            (self.transitive >> r) % 2 == 1
-        } else {
-            false
-        }
+        r < 32 && (self.transitive >> r) % 2 == 1
     }
 
     /// Whether the number is that of a named concept: one that counts in start facts, listings and questions.
     pub fn is_named(&self, c: u16) -> bool
         ensures { result ≡ is_named (terms_of self.now) c }
     {
-        match self.concepts().get(c as usize) {
-            Some(Concept::Atomic) => true,
-            _ => false,
-        }
+        matches!(self.concepts().get(c as usize), Some(Concept::Atomic))
     }
 }
