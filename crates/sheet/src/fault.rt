@@ -45,10 +45,7 @@ pub struct Located<E> {
 pub fn at<T, E>(res: Result<T, E>, place: usize) -> Result<T, Located<E>>
     ensures { result ≡ placed place res }
 {
-    match res {
-        Ok(value) => Ok(value),
-        Err(error) => Err(Located { error, place }),
-    }
+    res.map_err(|error| Located { error, place })
 }
 
 /// A field's fault becomes its line's, at the field's first column.

@@ -14,11 +14,7 @@ fn column(before: Option<u16>, c: u8) -> Result<Option<u16>, FieldFault>
         (None, b'0'..=b'9') => Ok(Some(u16::from(c - b'0'))),
         (Some(n), b'0'..=b'9') if n > 0 => {
             let wide = u32::from(n) * 10 + u32::from(c - b'0');
-            if wide <= 65535 {
-                Ok(Some(wide as u16))
-            } else {
-                Err(FieldFault)
-            }
+            u16::try_from(wide).map(Some).map_err(|_| FieldFault)
         }
         _ => Err(FieldFault),
     }

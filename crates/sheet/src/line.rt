@@ -34,13 +34,11 @@ fn stated(parts: Line) -> Result<Entry, LineFault>
     requires { length parts.fields.now ≡ 18 }
     ensures { result ≡ kind_line (kind_of parts.entry.letter) parts.entry.fields.now parts.entry.feed }
 {
-    let Some(kind) = Kind::of(char::from(parts.letter)) else {
-        return Err(LineFault {
-            layer: Layer::Line,
-            rejection: Rejection::UnknownLetter,
-            column: 1,
-        });
-    };
+    let kind = Kind::of(char::from(parts.letter)).ok_or(LineFault {
+        layer: Layer::Line,
+        rejection: Rejection::UnknownLetter,
+        column: 1,
+    })?;
     let numbers = read_numbers(parts.fields, kind.count())?;
     ended(entry(kind, numbers), parts.feed)
 }

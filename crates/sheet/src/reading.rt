@@ -35,7 +35,7 @@ fn whole_lines(text: &[u8]) -> Result<&[[u8; 20]], Fault>
     ensures { MatchResult result (λ lines. (length text.now % 20 ≡ 0) × (lines.now ≡ lines_in text.now)) (λ f. (length text.now % 20 ≢ 0) × (f ≡ unfinished (length text.now / 20 + 1))) }
 {
     let (lines, rest) = text.as_chunks::<20>();
-    if rest.len() > 0 {
+    if !rest.is_empty() {
         return Err(Fault {
             layer: Layer::Sheet,
             rejection: Rejection::UnfinishedLine,
