@@ -7,13 +7,13 @@ pub fn columns(n: u16) -> [u8; 6]
     ensures { result ≡ six_columns n }
 {
     let mut bytes = [b' '; 6];
-    let mut place = 5;
     let mut rest = n;
-    while rest >= 10 {
+    for place in (0..6).rev() {
         bytes[place] = b'0' + (rest % 10) as u8;
         rest /= 10;
-        place -= 1;
+        if rest == 0 {
+            break;
+        }
     }
-    bytes[place] = b'0' + rest as u8;
     bytes
 }
