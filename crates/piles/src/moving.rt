@@ -9,9 +9,8 @@ pub fn move_all<P: Pile, Q: Pile>(a: &mut P, b: &mut Q) -> usize
 {
     let mut refused = 0;
     while let Some(x) = a.draw() {
-        match b.put(x) {
-            Ok(()) => {}
-            Err(_) => refused += 1,
+        if b.put(x).is_err() {
+            refused += 1;
         }
     }
     refused

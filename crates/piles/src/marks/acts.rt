@@ -1,11 +1,11 @@
 //! What a table of marks does: its making, and the calls of a pile.
-ghost use Rattle.std.specs.Prelude.{◌≡◌, ℕ, false};
+ghost use Rattle.std.specs.Prelude.{◌≡◌, ℕ, false, not, ◌==◌, position};
 ghost use Rattle.piles.specs.Sets.{Put, Drew};
-ghost use Rattle.piles.specs.Lists.{room, RestKept};
+ghost use Rattle.piles.specs.Lists.{room, own, RestKept};
 ghost use Rattle.piles.specs.Tables.{in_marks, Smallest};
 
 use super::Marks;
-use crate::lent::{clear, is_held, room_in};
+use crate::lent::{clear, is_held, own_of, room_in};
 use crate::pile::Pile;
 use rejections::Rejection;
 
@@ -19,23 +19,28 @@ impl<'a> Marks<'a> {
         clear(list);
         Marks { list }
     }
+
+    // The smallest number held.
+    fn smallest(&self) -> Option<usize>
+        ensures { result ≡ position (λ entry. not (entry == 0)) (own self.now.list.now) }
+    {
+        own_of(self.list).iter().position(|entry| *entry != 0)
+    }
 }
 
 impl<'a> Pile for Marks<'a> {
     ghost numbers = { in_marks };
 
+    // Said for each pile, here and in the ring: a type around the list would have to be forwarded to just so.
     fn size(&self) -> usize {
         room_in(self.list)
     }
 
     fn count(&self) -> usize {
-        let mut n = 0;
-        for i in 0..self.size() {
-            if self.list[i] != 0 {
-                n += 1;
-            }
-        }
-        n
+        own_of(self.list)
+            .iter()
+            .filter(|entry| **entry != 0)
+            .count()
     }
 
     fn holds(&self, x: u16) -> bool {
@@ -60,12 +65,8 @@ impl<'a> Pile for Marks<'a> {
         ensures smallest { Smallest (in_marks self.old) result }
         ensures kept { RestKept self.old.list self.new.list }
     {
-        for i in 0..<Marks<'_> as Pile>::size(self) {
-            if self.list[i] != 0 {
-                self.list[i] = 0;
-                return Some(i as u16);
-            }
-        }
-        None
+        let first = self.smallest()?;
+        self.list[first] = 0;
+        Some(first as u16)
     }
 }

@@ -1,47 +1,36 @@
-use Rattle.std.proofs.Common.{◌≡◌, ℕ, ◌<◌, List, sym, refl, ap, ◌∙◌, arith, length-set, below_more}
-use Rattle.piles.specs.Sets.{without}
-use Rattle.piles.specs.Lists.{room, rest, held}
-use Rattle.piles.proofs.Entries.{held_of_zero, held_of_other, held_without, held_none, rest_written}
+use Rattle.std.proofs.Common.{◌≡◌, ℕ, ◌<◌, false, true, refl, sym, subst, arith, length-set}
+use Rattle.piles.specs.Sets.{Drew}
+use Rattle.piles.specs.Lists.{room, held}
+use Rattle.piles.specs.Tables.{in_marks}
+use Rattle.piles.proofs.Entries.{held_without, first_some, first_none, rest_written}
 use Rattle.piles.proofs.marks.acts.MarksPile.draw.Goals as goal
+use Rattle.piles.proofs.marks.acts.MarksPile.draw.Goals.{In_ok-first}
 
-pub loop-i-init : goal.loop-i-init
-loop-i-init c = (refl, λ k h. absurd (omega arith))
+-- what is known of the number drawn
+first : (c : In_ok-first) → (c.in_ok-first.first < room c.args.self.now.list.now) × (held c.args.self.now.list.now c.in_ok-first.first ≡ true) × ((y : ℕ) → y < c.in_ok-first.first → held c.args.self.now.list.now y ≡ false)
+first c = first_some c.args.self.now.list.now c.in_ok-first.first (sym c.in_ok-first.ensures)
 
-pub loop-i-preserved : goal.loop-i-preserved
-loop-i-preserved c =
-    let still = c.loop-i.invariant.0 in
-    let i = c.loop-i.i in (
-      still,
-      below_more _ _ c.loop-i.invariant.1 (ap (λ (l : List ℕ). held l i) (sym (ap (λ x. x.now) still)) ∙ held_of_zero c.loop-i.self.list.now i c.if-self-i-ne0.false),
-    )
+pub returns-in_err-first-clause-set : goal.returns-in_err-first-clause-set
+returns-in_err-first-clause-set c =
+    let m = in_marks c.args.self.now in
+    subst (Drew m m) (sym c.from_residual.ensures) (refl, first_none c.args.self.now.list.now (sym c.in_err-first.ensures), λ y. refl)
 
-pub returns-then-self-i-ne0 : goal.returns-then-self-i-ne0
-returns-then-self-i-ne0 c =
-    let still = c.loop-i.invariant.0 in
-    let i = c.loop-i.i in
-    let l : List ℕ = c.loop-i.self.list.now in
-    let e : l ≡ c.args.self.now.list.now = ap (λ x. x.now) still in
-    let below : i < room l = rw e (omega arith) in
-    record {
-      set = (
-        simp length-set (ap room e),
-        rw e at (held_of_other l i (omega arith) c.if-self-i-ne0.true),
-        λ y. held_without l i below y ∙ ap (λ (m : List ℕ). without (held m) i y) e,
-      );
-      smallest = c.loop-i.invariant.1;
-      kept = record { same = ap (λ x. x.ghost_name) still; kept = rest_written l i 0 (omega arith) ∙ ap rest e };
-    }
+pub offset_bounds-self-first : goal.offset_bounds-self-first
+offset_bounds-self-first c = omega (arith, (first c).0)
 
-pub returns : goal.returns
-returns c =
-    let still = c.loop-i.invariant.0 in
-    let e = ap (λ x. x.now) still in
-    record {
-      set = (
-        ap room e,
-        held_none c.args.self.now.list.now (λ k h. c.loop-i.invariant.1 k (omega arith)),
-        λ y. ap (λ (l : List ℕ). held l y) e,
-      );
-      smallest = tt;
-      kept = record { same = ap (λ x. x.ghost_name) still; kept = ap rest e };
-    }
+pub bounds-self-first : goal.bounds-self-first
+bounds-self-first c = omega (arith, (first c).0)
+
+pub overflow_cast-result : goal.overflow_cast-result
+overflow_cast-result c = omega (arith, (first c).0)
+
+pub returns-clause-set : goal.returns-clause-set
+returns-clause-set c =
+    let l = c.args.self.now.list.now in
+    (simp length-set refl, (first c).1, held_without l c.in_ok-first.first (first c).0)
+
+pub returns-clause-smallest : goal.returns-clause-smallest
+returns-clause-smallest c = (first c).2
+
+pub returns-clause-kept : goal.returns-clause-kept
+returns-clause-kept c = record { same = refl; kept = rest_written c.args.self.now.list.now c.in_ok-first.first 0 (omega (arith, (first c).0)) }
