@@ -22,7 +22,7 @@ mod tests {
         marks.draw()
     }
 
-    // The same by a ring.
+    // The same by a ring: one function for every pile could not promise this, since only the two piles have a list to speak of.
     fn through_ring(list: &mut [u16], x: u16) -> Option<u16>
         ensures { rest list.new ≡ rest list.old }
     {

@@ -151,15 +151,8 @@ fn counts(terms: &Terms) -> [usize; 3] {
     ]
 }
 
-fn is_top(concept: Concept) -> bool {
-    match concept {
-        Concept::Top => true,
-        _ => false,
-    }
-}
-
 #[test]
-fn takes_each_letter_and_number(rt: HostRuntime) -> Result<(), Fail> {
+fn takes_each_letter_and_number(rt: HostRuntime) {
     let mut concepts = [Concept::Top; 5];
     let mut inclusions = [MARK; 3];
     let mut terms = Terms::empty(&mut concepts, &mut inclusions);
@@ -173,13 +166,14 @@ fn takes_each_letter_and_number(rt: HostRuntime) -> Result<(), Fail> {
         [inclusions[0].code, inclusions[1].code, inclusions[2].code],
         [65535, 0, 9]
     );
-    match (concepts[2], concepts[3]) {
-        (Concept::Conjunction(0, 1), Concept::Restriction(0, 2)) => {
-            assert!(rt; is_top(concepts[4]));
-            Ok(())
-        },
-        _ => Err(Fail::new("other operands")),
-    }
+    assert_eq!(rt;
+        [concepts[2], concepts[3], concepts[4]],
+        [
+            Concept::Conjunction(0, 1),
+            Concept::Restriction(0, 2),
+            Concept::Top
+        ]
+    );
 }
 
 #[test]
@@ -218,7 +212,7 @@ fn leaves_all_at_a_fault(rt: HostRuntime) {
     );
     assert_eq!(rt; counts(&terms), [1, 0, 1]);
     assert!(rt; terms.is_transitive(0));
-    assert!(rt; is_top(concepts[1]) && inclusions[0].code == 9);
+    assert_eq!(rt; (concepts[1], inclusions[0]), (Concept::Top, MARK));
 }
 
 #[test]
@@ -230,31 +224,26 @@ fn keeps_the_limits(rt: HostRuntime) -> Result<(), Fail> {
     let role: &[u8] = b"R                  \n";
     let stated: &[u8] = b"S     0     0     0\n";
     let roles = role.repeat(rt.alloc(), 33)?;
-    assert_eq!(rt; line_beyond(read(&roles, &mut terms)), 33);
+    assert_eq!(rt; read(&roles, &mut terms), beyond(33));
     let atoms = atom.repeat(rt.alloc(), 1025)?;
-    assert_eq!(rt; line_beyond(read(&atoms, &mut terms)), 1025);
+    assert_eq!(rt; read(&atoms, &mut terms), beyond(1025));
     let mut all = atom.repeat(rt.alloc(), 1024)?;
     let many = stated.repeat(rt.alloc(), 4096)?;
     all.extend_from_slice(&many)?;
     assert_eq!(rt; read(&all, &mut terms), Ok(5120));
     all.extend_from_slice(stated)?;
-    assert_eq!(rt; line_beyond(read(&all, &mut terms)), 5121);
+    assert_eq!(rt; read(&all, &mut terms), beyond(5121));
     Ok(())
 }
 
-// The line that goes beyond a limit, or 0.
-fn line_beyond(answer: Result<usize, Fault>) -> usize {
-    match answer {
-        Err(
-            Fault {
-                layer: Layer::Sheet,
-                rejection: Rejection::BeyondLimit,
-                line,
-                column: 1,
-            },
-        ) => line,
-        _ => 0,
-    }
+// The answer where a line goes beyond a limit.
+fn beyond(line: usize) -> Result<usize, Fault> {
+    Err(Fault {
+        layer: Layer::Sheet,
+        rejection: Rejection::BeyondLimit,
+        line,
+        column: 1,
+    })
 }
 
 #[test]
