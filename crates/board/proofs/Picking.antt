@@ -1,33 +1,34 @@
 -- Tests over the numbers below a bound, and the list of those that pass.
 use Rattle.std.proofs.Common.{◌≡◌, ℕ, zero, suc, ◌+◌, ◌<◌, ◌≤◌, Bool, true, false, cond, ◌&&◌, List, [], ◌∷◌, ◌++◌, length, drop, set, sym, refl, ap, ◌∙◌, inl, inr, append_assoc, append-nil, add-one, arith, length-append, drop-cons}
-use Rattle.std.proofs.lemmas.Bool.{and_parts, and_from, and_left, cases_eq, cases_Bool}
+use Rattle.std.specs.List.{range_with_len, list_all, filter}
+use Rattle.std.proofs.lemmas.Bool.{cases_eq, cases_Bool}
+use Rattle.std.proofs.lemmas.List.FromFn.{map-range_with_len_more}
+use Rattle.std.proofs.lemmas.List.Folds.{list_all-append}
+use Rattle.std.proofs.lemmas.List.Elements.{filter-append}
+use mathlib.Core.List.{map-id}
 use Rattle.board.specs.Asking.{every, picked}
 
--- ---- all pass
+-- ---- over a range
 
-pub every_more : (f : ℕ → Bool) (i : ℕ) → every i f ≡ true → f i ≡ true → every (i + 1) f ≡ true
-every_more f i h e = rw add-one (and_from (f i) (every i f) e h)
+range_more : (n : ℕ) → range_with_len 0 (suc n) ≡ range_with_len 0 n ++ n ∷ []
+range_more n =
+    ap (range_with_len 0) (sym (add-one n)) ∙ sym (map-id (range_with_len 0 (n + 1))) ∙ map-range_with_len_more (λ x. x) 0 n n (omega arith) ∙ ap (λ xs. xs ++ n ∷ []) (map-id (range_with_len 0 n))
 
-pub every_fails : (f : ℕ → Bool) (i n : ℕ) → i < n → f i ≡ false → every n f ≡ false
-every_fails f i zero l e = absurd (omega arith)
-every_fails f i (suc n) l e = elim (cases_eq i n) [
-  | inl q ↦ and_left (f n) (every n f) (ap f (sym q) ∙ e)
-  | inr d ↦ and_last (f n) (every n f) (every_fails f i n (omega arith) e)
-]
-  where
-    and_last : (x y : Bool) → y ≡ false → (x && y) ≡ false
-    and_last true y h = h
-    and_last false y h = refl
+turned : (x y : Bool) → (x && (y && true)) ≡ (y && x)
+turned true true = refl
+turned true false = refl
+turned false true = refl
+turned false false = refl
 
-pub every_at : (f : ℕ → Bool) (n : ℕ) → every n f ≡ true → (i : ℕ) → i < n → f i ≡ true
-every_at f zero h i l = absurd (omega arith)
-every_at f (suc n) h i l =
-    let t = and_parts (f n) (every n f) h in
-    elim (cases_eq i n) [ inl q ↦ ap f q ∙ t.0 | inr d ↦ every_at f n t.1 i (omega arith) ]
+pub all_of_range : (f : ℕ → Bool) (n : ℕ) → list_all f (range_with_len 0 n) ≡ every n f
+all_of_range f zero = refl
+all_of_range f (suc n) =
+    ap (list_all f) (range_more n) ∙ list_all-append f (range_with_len 0 n) (n ∷ []) ∙ ap (λ x. x && (f n && true)) (all_of_range f n) ∙ turned (every n f) (f n)
 
-pub every_of : (f : ℕ → Bool) (n : ℕ) → ((i : ℕ) → i < n → f i ≡ true) → every n f ≡ true
-every_of f zero h = refl
-every_of f (suc n) h = and_from (f n) (every n f) (h n (omega arith)) (every_of f n (λ i l. h i (omega arith)))
+pub filter_of_range : (f : ℕ → Bool) (n : ℕ) → filter f (range_with_len 0 n) ≡ picked f n
+filter_of_range f zero = refl
+filter_of_range f (suc n) =
+    ap (filter f) (range_more n) ∙ filter-append f (range_with_len 0 n) (n ∷ []) ∙ ap (λ xs. xs ++ filter f (n ∷ [])) (filter_of_range f n)
 
 -- ---- those that pass
 

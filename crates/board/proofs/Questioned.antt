@@ -21,13 +21,13 @@ settled_of e (other_terms h) = absurd (let z : ◌≡◌ {A = ℕ} 0 1 = cc in o
 settled_of e (job_waits h w) = absurd (let z : ◌≡◌ {A = ℕ} 0 1 = cc in omega arith)
 
 -- the pickings are the lists that are asked for
-pub wanted_list : (q : Question) (v : Vocabulary) (k : Kind) (b : Board) (p a n : ℕ) → n ≡ length v.concepts → ListOf (Wanted q v (FoundUnder k b p) a) (picked (wanted_test q n v k b p a) n)
-wanted_list Mates v k b p a n e = subst (λ (m : ℕ). ListOf (Wanted Mates v (FoundUnder k b p) a) (picked (wanted_test Mates m v k b p a) m)) (sym e) (mates_list v k b p a)
-wanted_list Parents v k b p a n e = subst (λ (m : ℕ). ListOf (Wanted Parents v (FoundUnder k b p) a) (picked (wanted_test Parents m v k b p a) m)) (sym e) (parents_list v k b p a)
+pub wanted_list : (q : Question) (v : Vocabulary) (k : Kind) (b : Board) (p a n : ℕ) → Named v a → n ≡ length v.concepts → ListOf (Wanted q v (FoundUnder k b p) a) (picked (wanted_test q n v k b p a) n)
+wanted_list Mates v k b p a n i e = subst (λ (m : ℕ). ListOf (Wanted Mates v (FoundUnder k b p) a) (picked (wanted_test Mates m v k b p a) m)) (sym e) (mates_list v k b p a i)
+wanted_list Parents v k b p a n i e = subst (λ (m : ℕ). ListOf (Wanted Parents v (FoundUnder k b p) a) (picked (wanted_test Parents m v k b p a) m)) (sym e) (parents_list v k b p a i)
 
 -- the same of a board that was lent for reading
-pub asked_list : (q : Question) (v : Vocabulary) (k : Kind) (r b : Board) (p a n : ℕ) → r ≡ b → n ≡ length v.concepts → ListOf (Wanted q v (FoundUnder k b p) a) (picked (wanted_test q n v k r p a) n)
-asked_list q v k r b p a n e l = subst (λ (x : Board). ListOf (Wanted q v (FoundUnder k x p) a) (picked (wanted_test q n v k r p a) n)) e (wanted_list q v k r p a n l)
+pub asked_list : (q : Question) (v : Vocabulary) (k : Kind) (r b : Board) (p a n : ℕ) → Named v a → r ≡ b → n ≡ length v.concepts → ListOf (Wanted q v (FoundUnder k b p) a) (picked (wanted_test q n v k r p a) n)
+asked_list q v k r b p a n i e l = subst (λ (x : Board). ListOf (Wanted q v (FoundUnder k x p) a) (picked (wanted_test q n v k r p a) n)) e (wanted_list q v k r p a n i l)
 
 module _ (k : Kind) (lawful : Lawful k) (v : Vocabulary) (wf : WellFormed v) (b : Board) (q : Quiet v b) where
   pub under_truth : (a d : ℕ) → Named v a → d < length v.concepts → UnderTruth v k b a d (b.found (under a d))

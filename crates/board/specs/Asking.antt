@@ -1,16 +1,16 @@
 -- The tests by which questions pick their answers.
-use Rattle.std.specs.Prelude.{ℕ, zero, suc, Bool, true, cond, not, ◌&&◌, List, [], ◌∷◌, ◌++◌, ◌==◌}
+use Rattle.std.specs.Prelude.{ℕ, zero, suc, Bool, cond, List, [], ◌∷◌, ◌++◌}
+pub use Rattle.lemmas.specs.Tests.{every}
 use Rattle.grades.specs.Kinds.{Kind}
-use Rattle.terms.specs.Vocabularies.{Vocabulary, is_named}
+use Rattle.terms.specs.Vocabularies.{Vocabulary}
+use Rattle.terms.specs.Views.{terms_of}
 use Rattle.reasoning.specs.declared.Fact.TheVariants.{Under as under}
 use Rattle.saturation.specs.Boards.{Board}
+use Rattle.saturation.specs.Deciding as deciding
 use Rattle.board.specs.declared.reader.asking.Question.{Question}
 use Rattle.board.specs.declared.reader.asking.Question.TheVariants.{Mates, Parents}
-
--- all numbers below n pass the test
-abbrev pub every : ℕ → (ℕ → Bool) → Bool
-every zero f = true
-every (suc n) f = f n && every n f
+use Rattle.board.specs.declared.reader.asking.Asked.{Asked}
+use Rattle.board.specs.Views.{read_of}
 
 -- the numbers below n that pass the test, ascending
 abbrev pub picked : (ℕ → Bool) → ℕ → List ℕ
@@ -23,25 +23,33 @@ under_test k b p c d = k.holds (b.found (under c d)) p
 
 -- the test of Mate
 abbrev pub mate_test : Vocabulary → Kind → Board → ℕ → ℕ → ℕ → Bool
-mate_test v k b p a c = is_named v c && (not (c == a) && (under_test k b p a c && under_test k b p c a))
+mate_test v k b p a c = deciding.mate_test v (under_test k b p) a c
 
 -- the test of Between
 abbrev pub between_test : Vocabulary → Kind → Board → ℕ → ℕ → ℕ → ℕ → Bool
-between_test v k b p a d c = is_named v c && (under_test k b p a c && (under_test k b p c d && (not (under_test k b p c a) && not (under_test k b p d c))))
+between_test v k b p a d c = deciding.between_test v (under_test k b p) a d c
 
 -- no mate has a lower number
 abbrev pub lowest_test : Vocabulary → Kind → Board → ℕ → ℕ → Bool
-lowest_test v k b p a = every a (λ c. not (mate_test v k b p a c))
+lowest_test v k b p a = deciding.lowest_test v (under_test k b p) a
 
 -- none of n concepts lies between
 abbrev pub nothing_between_test : ℕ → Vocabulary → Kind → Board → ℕ → ℕ → ℕ → Bool
-nothing_between_test n v k b p a d = every n (λ c. not (between_test v k b p a d c))
+nothing_between_test n v k b p a d = deciding.nothing_between_test n v (under_test k b p) a d
 
 -- the test of Parent
 abbrev pub parent_test : ℕ → Vocabulary → Kind → Board → ℕ → ℕ → ℕ → Bool
-parent_test n v k b p a d = is_named v d && (under_test k b p a d && (not (under_test k b p d a) && (lowest_test v k b p d && nothing_between_test n v k b p a d)))
+parent_test n v k b p a d = deciding.parent_test n v (under_test k b p) a d
 
 -- the test of what is asked
 abbrev pub wanted_test : Question → ℕ → Vocabulary → Kind → Board → ℕ → ℕ → ℕ → Bool
 wanted_test Mates n v k b p a c = mate_test v k b p a c
 wanted_test Parents n v k b p a c = parent_test n v k b p a c
+
+-- a test of the concept and the point that are asked about
+abbrev pub asked_of : {X T : Type 0} → (Vocabulary → Kind → Board → ℕ → ℕ → T) → Kind → Asked X → T
+asked_of test k a = test (terms_of a.terms.now) k (read_of a.reader) a.point a.concept
+
+-- the test of what is asked of them
+abbrev pub wanted : {X : Type 0} → Kind → Asked X → ℕ → Bool
+wanted k a = asked_of (wanted_test a.question a.reader.concepts) k a

@@ -7,7 +7,7 @@ ghost use Rattle.board.specs.declared.reader.asking.Question.TheVariants as aski
 ghost use Rattle.board.specs.Questions.{SettledOr, Under, Filled, UnderTruth, ListTruth};
 
 use super::ClosedBoard;
-use crate::reader::asking::{Place, Question};
+use crate::reader::asking::{Asked, Question};
 use grades::kind::GradeKind;
 use reasoning::Fact;
 use rejections::Rejection;
@@ -44,25 +44,33 @@ impl<'a, K: GradeKind> ClosedBoard<'a, K> {
         &self,
         terms: &Terms,
         question: Question,
-        at: Place,
+        a: u16,
+        point: u8,
         list: &mut [u16],
     ) -> Result<usize, Rejection>
-        ensures answer { Filled question (terms_of terms.now) K.GradeKind.kind self.now.concepts self.now.roles (closed_of self.now) at.concept at.point list.old list.new result }
-        ensures truth { IfOk result (λ n. ListTruth question (terms_of terms.now) K.GradeKind.kind (closed_of self.now) at.concept at.point (take n list.new)) }
+        ensures answer { Filled question (terms_of terms.now) K.GradeKind.kind self.now.concepts self.now.roles (closed_of self.now) a point list.old list.new result }
+        ensures truth { IfOk result (λ n. ListTruth question (terms_of terms.now) K.GradeKind.kind (closed_of self.now) a point (take n list.new)) }
     {
         self.settled(terms)?;
-        if !terms.is_named(at.concept) {
+        if !terms.is_named(a) {
             return Err(Rejection::NoSuchConcept);
         }
-        if at.point >= K::points() {
+        if point >= K::points() {
             return Err(Rejection::NoSuchPoint);
         }
-        let reader = self.reader();
-        let count = reader.count_wanted::<K>(terms, question, at);
+        let asked = Asked {
+            reader: self.reader(),
+            terms,
+            kind: self.kind,
+            question,
+            concept: a,
+            point,
+        };
+        let count = asked.count_wanted();
         if count > list.len() {
             return Err(Rejection::ShortList);
         }
-        reader.write_wanted::<K>(terms, question, at, list);
+        asked.write_wanted(list);
         Ok(count)
     }
 
@@ -77,7 +85,7 @@ impl<'a, K: GradeKind> ClosedBoard<'a, K> {
         ensures answer { Filled asking.Mates (terms_of terms.now) K.GradeKind.kind self.now.concepts self.now.roles (closed_of self.now) a point list.old list.new result }
         ensures truth { IfOk result (λ n. ListTruth asking.Mates (terms_of terms.now) K.GradeKind.kind (closed_of self.now) a point (take n list.new)) }
     {
-        self.fill(terms, Question::Mates, Place { concept: a, point }, list)
+        self.fill(terms, Question::Mates, a, point, list)
     }
 
     /// The parents of a named concept at a point, ascending, written to the front of the list; their count is answered.
@@ -91,6 +99,6 @@ impl<'a, K: GradeKind> ClosedBoard<'a, K> {
         ensures answer { Filled asking.Parents (terms_of terms.now) K.GradeKind.kind self.now.concepts self.now.roles (closed_of self.now) a point list.old list.new result }
         ensures truth { IfOk result (λ n. ListTruth asking.Parents (terms_of terms.now) K.GradeKind.kind (closed_of self.now) a point (take n list.new)) }
     {
-        self.fill(terms, Question::Parents, Place { concept: a, point }, list)
+        self.fill(terms, Question::Parents, a, point, list)
     }
 }
