@@ -13,7 +13,7 @@ use Rattle.reasoning.specs.Derivations.{Within}
 use Rattle.saturation.specs.declared.State.TheVariants.{Queued}
 use Rattle.saturation.specs.Boards.{Moment, Sane}
 use Rattle.saturation.specs.Effects.{Made}
-use Rattle.board.specs.declared.board.OpenBoard.{OpenBoard}
+use Rattle.board.specs.Stages.{OpenBoard}
 use Rattle.board.specs.Views.{board_of, moment_of}
 use Rattle.board.specs.Frames.{Framed}
 use Rattle.board.specs.Moves.{Wrote, Nudged}

@@ -8,7 +8,7 @@ use Rattle.reasoning.specs.declared.Fact.{Fact}
 use Rattle.board.specs.Views.{moment_of}
 use Rattle.board.specs.Raises.{Ready, Drawn}
 use Rattle.board.specs.OwnDraws.{AnyBelow}
-use Rattle.board.specs.declared.board.OpenBoard.{OpenBoard}
+use Rattle.board.specs.Stages.{OpenBoard}
 use Rattle.board.proofs.Frames.{kept_same, kept_then, ready_kept}
 use Rattle.board.proofs.Raising.{raises_nothing, raises_alike, raises_then, seated}
 

@@ -17,7 +17,7 @@ use Rattle.saturation.specs.Histories.{Event, took, worked, lowered, rechecked, 
 use Rattle.saturation.specs.Runs.{Exhausts, Runs, NothingToTake}
 use Rattle.reasoning.proofs.Jobs.{at_within}
 use Rattle.saturation.proofs.Places.{idle≢held}
-use Rattle.board.specs.declared.board.OpenBoard.{OpenBoard}
+use Rattle.board.specs.Stages.{OpenBoard}
 use Rattle.board.specs.Views.{board_of, moment_of}
 use Rattle.board.specs.Frames.{Framed, Kept}
 use Rattle.board.specs.Raises.{Ready}

@@ -7,7 +7,7 @@ use Rattle.piles.specs.Sets.{Numbers, Put, Drew}
 use Rattle.saturation.specs.declared.State.{State}
 use Rattle.saturation.specs.declared.State.TheVariants.{Idle, Queued, Held}
 use Rattle.saturation.specs.Boards.{Sane}
-use Rattle.board.specs.declared.board.OpenBoard.{OpenBoard}
+use Rattle.board.specs.Stages.{OpenBoard}
 use Rattle.board.specs.declared.board.states.Change.TheVariants.{Take, Lower}
 use Rattle.board.specs.Views.{board_of}
 use Rattle.board.specs.Frames.{Framed}

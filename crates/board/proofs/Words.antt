@@ -6,7 +6,7 @@ use Rattle.reasoning.specs.declared.Job.{Job}
 use Rattle.saturation.specs.Effects.{SameGrades}
 use Rattle.reasoning.specs.declared.Fact.TheVariants.{Under as under, Implies as implies}
 use Rattle.reasoning.specs.declared.Job.TheVariants.{Own as own, Link as link, Imply as imply}
-use Rattle.board.specs.declared.board.OpenBoard.{OpenBoard}
+use Rattle.board.specs.Stages.{OpenBoard}
 use Rattle.board.specs.Layout.{room, StateWords}
 use Rattle.board.specs.Frames.{Framed}
 use Rattle.board.specs.Moves.{Wrote, Marked}

@@ -10,14 +10,13 @@ use Rattle.saturation.specs.Boards.{Sane}
 use Rattle.saturation.specs.Effects.{Made, Took, Worked, Lowered, Rechecked}
 use Rattle.saturation.specs.Histories.{Event}
 use Rattle.saturation.specs.Runs.{Runs}
-use Rattle.board.specs.declared.board.OpenBoard.{OpenBoard}
+use Rattle.board.specs.Stages.{AnyBoard, OpenBoard}
 use Rattle.board.specs.declared.board.running.Ran.{Ran}
-use Rattle.board.specs.declared.closed.ClosedBoard.{ClosedBoard}
 use Rattle.board.specs.declared.tokens.Lease.{Lease}
 use Rattle.board.specs.declared.tokens.LoweredLease.{LoweredLease}
 use Rattle.board.specs.declared.tokens.Refused.{Refused}
 use Rattle.board.specs.Layout.{room}
-use Rattle.board.specs.Views.{board_of, closed_of, moment_of}
+use Rattle.board.specs.Views.{content_of, board_of, moment_of}
 use Rattle.board.specs.Raises.{Ready}
 use Rattle.board.specs.Refusals.{Unready, TakeRejected, StepRejected, LowerRejected, RecheckRejected}
 
@@ -70,9 +69,9 @@ RanBy v k numbers budget a p b q (Ok r) =
     Ready v numbers a p × (Sane a.concepts a.roles k (board_of a) → (es : List Event) × Runs v k budget r.outcome r.steps es (moment_of numbers a p) (moment_of numbers b q))
 RanBy v k numbers budget a p b q (Err e) = Unready v a.concepts a.roles (numbers p).size e × (b ≡ a) × (q ≡ p)
 
--- an open and a closed board are one: the view, the counts and the lent words are the same
-pub record SameBoard {X : Type 0} (a : OpenBoard X) (b : ClosedBoard X) : Type 0 where
-  pub view : closed_of b ≡ board_of a
+-- two boards, of whatever stages, are one: the view, the counts and the lent words are the same
+pub record SameBoard {X S T : Type 0} (a : AnyBoard X S) (b : AnyBoard X T) : Type 0 where
+  pub view : content_of b ≡ content_of a
   pub concepts : b.concepts ≡ a.concepts
   pub roles : b.roles ≡ a.roles
   pub words : b.words.now ≡ a.words.now

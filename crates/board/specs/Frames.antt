@@ -1,7 +1,7 @@
 -- What no call changes.
 use Rattle.std.specs.Prelude.{◌≡◌, ℕ, ◌≤◌, length, slice_index}
 use Rattle.piles.specs.Sets.{Numbers}
-use Rattle.board.specs.declared.board.OpenBoard.{OpenBoard}
+use Rattle.board.specs.Stages.{OpenBoard}
 use Rattle.board.specs.Layout.{room}
 
 -- the board has its counts, and lies over the same lent list, whose further words are as before

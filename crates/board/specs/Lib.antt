@@ -1,4 +1,5 @@
 pub mod Layout
+pub mod Stages
 pub mod Views
 pub mod Frames
 pub mod Moves

@@ -8,7 +8,7 @@ use Rattle.reasoning.specs.declared.Fact.TheVariants.{Under as under}
 use Rattle.reasoning.specs.declared.Job.{Job}
 use Rattle.reasoning.specs.Derivations.{Within, fact_of}
 use Rattle.saturation.specs.declared.State.TheVariants.{Idle, Queued}
-use Rattle.board.specs.declared.board.OpenBoard.{OpenBoard}
+use Rattle.board.specs.Stages.{OpenBoard}
 use Rattle.board.specs.Layout.{room}
 use Rattle.board.specs.Views.{board_of}
 

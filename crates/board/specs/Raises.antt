@@ -9,7 +9,7 @@ use Rattle.reasoning.specs.Derivations.{Within, JobAt, fact_of}
 use Rattle.saturation.specs.declared.State.TheVariants.{Idle, Queued}
 use Rattle.saturation.specs.Boards.{Board, Moment}
 use Rattle.saturation.specs.Effects.{SameGrades}
-use Rattle.board.specs.declared.board.OpenBoard.{OpenBoard}
+use Rattle.board.specs.Stages.{OpenBoard}
 use Rattle.board.specs.Views.{moment_of}
 use Rattle.board.specs.Frames.{Kept}
 use Rattle.board.specs.Moves.{Stays, Wakes}

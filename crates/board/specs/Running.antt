@@ -9,7 +9,7 @@ use Rattle.saturation.specs.Boards.{Moment, QuietAt, Sane}
 use Rattle.saturation.specs.Effects.{Lowered, Rechecked}
 use Rattle.saturation.specs.Histories.{Event}
 use Rattle.saturation.specs.Runs.{Exhausts, Runs}
-use Rattle.board.specs.declared.board.OpenBoard.{OpenBoard}
+use Rattle.board.specs.Stages.{OpenBoard}
 use Rattle.board.specs.Views.{board_of, moment_of}
 use Rattle.board.specs.Frames.{Kept}
 use Rattle.board.specs.Calls.{StaysSane}

@@ -9,9 +9,8 @@ use Rattle.reasoning.specs.Derivations.{fact_of}
 use Rattle.saturation.specs.declared.State.{State}
 use Rattle.saturation.specs.declared.State.TheVariants.{Idle, Queued, Held}
 use Rattle.saturation.specs.Boards.{Board, Moment}
-use Rattle.board.specs.declared.board.OpenBoard.{OpenBoard}
-use Rattle.board.specs.declared.closed.ClosedBoard.{ClosedBoard}
 use Rattle.board.specs.declared.reader.Reader.{Reader}
+use Rattle.board.specs.Stages.{AnyBoard, OpenBoard, ClosedBoard}
 use Rattle.board.specs.Layout.{place}
 
 -- the state that a word stands for
@@ -64,13 +63,17 @@ view_of words n m steps = record {
   steps = steps;
 }
 
+-- what a board says, at whatever stage
+abbrev pub content_of : {X S : Type 0} → AnyBoard X S → Board
+content_of b = view_of b.words.now b.concepts b.roles b.steps
+
 -- what an open board says
 abbrev pub board_of : {X : Type 0} → OpenBoard X → Board
-board_of b = view_of b.words.now b.concepts b.roles b.steps
+board_of b = content_of b
 
 -- what a closed board says
 abbrev pub closed_of : {X : Type 0} → ClosedBoard X → Board
-closed_of b = view_of b.words.now b.concepts b.roles b.steps
+closed_of b = content_of b
 
 -- what a board that is lent for reading says
 abbrev pub read_of : Reader → Board

@@ -1,6 +1,8 @@
-//! The open board: the shared state of one saturation, over lent words.
+//! The board: the shared state of one saturation, over lent words. It is open, for work, or closed, for questions.
 ghost use Rattle.std.specs.Prelude.{◌≤◌, length};
 ghost use Rattle.board.specs.Layout.{room, StateWords};
+
+use std::marker::PhantomData;
 
 mod calls;
 mod closing;
@@ -14,16 +16,26 @@ mod states;
 mod working;
 mod writes;
 
-/// A board on which work goes on. It keeps the found grade of each fact, the done grade of each job and the state of each concept in
+/// The stage of a board on which work goes on.
+pub struct Open;
+
+/// The stage of a board that answers questions.
+pub struct Closed;
+
+/// A board at the stage `S`. It keeps the found grade of each fact, the done grade of each job and the state of each concept in
 /// `words`, which the caller lends.
 #[derive(Drop)]
-pub struct OpenBoard<'a, K> {
+pub struct Board<'a, K, S> {
     words: &'a mut [u16],
-    concepts: usize,
-    roles: usize,
+    pub(crate) concepts: usize,
+    pub(crate) roles: usize,
     steps: u64,
     kind: K,
+    stage: PhantomData<S>,
     ghost few: { (concepts ≤ 1024) × (roles ≤ 32) },
     ghost fits: { room concepts roles ≤ length words.now },
     ghost states: { StateWords concepts words.now },
 }
+
+/// A board on which work goes on.
+pub type OpenBoard<'a, K> = Board<'a, K, Open>;

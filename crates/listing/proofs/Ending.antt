@@ -15,7 +15,7 @@ use Rattle.saturation.specs.AnyOrder.{Promise}
 use Rattle.saturation.proofs.Numbers.{pairs_small}
 use Rattle.saturation.proofs.Finish.{runs_lead, runs_finish}
 use Rattle.saturation.proofs.OneAnswer.{any_order}
-use Rattle.board.specs.declared.board.OpenBoard.{OpenBoard}
+use Rattle.board.specs.Stages.{OpenBoard}
 use Rattle.board.specs.declared.board.running.Ran.{Ran}
 use Rattle.board.specs.Views.{board_of, moment_of}
 use Rattle.board.specs.Layout.{room}

@@ -12,9 +12,9 @@ use Rattle.saturation.specs.AnyOrder.{AllDone, Promise}
 use Rattle.saturation.proofs.Numbers.{pairs_small}
 use Rattle.saturation.proofs.Finish.{join_leads, runs_lead, runs_finish, balanced_rested}
 use Rattle.saturation.proofs.OneAnswer.{any_order}
-use Rattle.board.specs.declared.board.OpenBoard.{OpenBoard}
+use Rattle.board.specs.Stages.{OpenBoard}
 use Rattle.board.specs.declared.board.running.Ran.{Ran}
-use Rattle.board.specs.declared.closed.ClosedBoard.{ClosedBoard}
+use Rattle.board.specs.Stages.{ClosedBoard}
 use Rattle.board.specs.Layout.{room}
 use Rattle.board.specs.Views.{board_of, closed_of, moment_of}
 use Rattle.board.specs.Frames.{Kept}

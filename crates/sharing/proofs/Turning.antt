@@ -11,7 +11,7 @@ use Rattle.saturation.specs.Effects.{Took, Lowered, Rechecked}
 use Rattle.saturation.specs.Histories.{Event, took, worked, lowered, rechecked, other, nothing, and_then, unrechecked}
 use Rattle.saturation.proofs.Places.{idle≢held, held≢queued}
 use Rattle.saturation.proofs.Finish.{join_leads, granted_of, given_back_of}
-use Rattle.board.specs.declared.board.OpenBoard.{OpenBoard}
+use Rattle.board.specs.Stages.{OpenBoard}
 use Rattle.board.specs.declared.tokens.Lease.{Lease}
 use Rattle.board.specs.Views.{board_of, moment_of}
 use Rattle.board.specs.Frames.{Framed, Kept}

@@ -8,7 +8,7 @@ use Rattle.reasoning.specs.declared.Job.{Job}
 use Rattle.saturation.specs.Boards.{Board, Sane}
 use Rattle.saturation.specs.Effects.{Took, Lowered}
 use Rattle.saturation.specs.Histories.{Event, took, worked, lowered, rechecked, other, Leads, nothing, and_then, History}
-use Rattle.board.specs.declared.board.OpenBoard.{OpenBoard}
+use Rattle.board.specs.Stages.{OpenBoard}
 use Rattle.board.specs.declared.board.running.Ran.{Ran}
 use Rattle.board.specs.declared.tokens.Lease.{Lease}
 use Rattle.board.specs.declared.tokens.LoweredLease.{LoweredLease}

@@ -6,7 +6,7 @@ use Rattle.terms.specs.Vocabularies.{Vocabulary}
 use Rattle.saturation.specs.Boards.{Sane}
 use Rattle.saturation.specs.Histories.{Event, Leads}
 use Rattle.saturation.specs.Answers.{TrulyUnder}
-use Rattle.board.specs.declared.board.OpenBoard.{OpenBoard}
+use Rattle.board.specs.Stages.{OpenBoard}
 use Rattle.board.specs.Views.{board_of, moment_of}
 
 -- the board has the vocabulary's counts, and its grades are sane

@@ -1,38 +1,41 @@
-//! Closing and reopening: the board moves from one type to the other, over the same words.
-ghost use Rattle.std.specs.Prelude.{◌≡◌};
-ghost use Rattle.board.specs.Views.{board_of};
+//! Closing and reopening: the board moves from one stage to the other, over the same words.
 ghost use Rattle.board.specs.Calls.{SameBoard};
 
-use super::OpenBoard;
+use super::{Board, Closed, Open, OpenBoard};
 use crate::closed::ClosedBoard;
 use grades::kind::GradeKind;
+use std::marker::PhantomData;
+
+impl<'a, K: GradeKind, S> Board<'a, K, S> {
+    /// The same board at the stage `T`.
+    fn at_stage<T>(self) -> Board<'a, K, T>
+        ensures { SameBoard self.entry result }
+    {
+        let Board {
+            words,
+            concepts,
+            roles,
+            steps,
+            kind,
+            stage: _,
+        } = self;
+        Board {
+            words,
+            concepts,
+            roles,
+            steps,
+            kind,
+            stage: PhantomData,
+        }
+    }
+}
 
 impl<'a, K: GradeKind> OpenBoard<'a, K> {
-    /// How many steps were done since the board was made, up to the greatest number of 64 bits.
-    pub fn steps(&self) -> u64
-        ensures { result ≡ (board_of self.now).steps }
-    {
-        self.steps
-    }
-
     /// Ends the work for now, so that the board can be asked.
     pub fn close(self) -> ClosedBoard<'a, K>
         ensures { SameBoard self.entry result }
     {
-        let OpenBoard {
-            words,
-            concepts,
-            roles,
-            steps,
-            kind,
-        } = self;
-        ClosedBoard {
-            words,
-            concepts,
-            roles,
-            steps,
-            kind,
-        }
+        self.at_stage::<Closed>()
     }
 }
 
@@ -41,19 +44,6 @@ impl<'a, K: GradeKind> ClosedBoard<'a, K> {
     pub fn reopen(self) -> OpenBoard<'a, K>
         ensures { SameBoard result self.entry }
     {
-        let ClosedBoard {
-            words,
-            concepts,
-            roles,
-            steps,
-            kind,
-        } = self;
-        OpenBoard {
-            words,
-            concepts,
-            roles,
-            steps,
-            kind,
-        }
+        self.at_stage::<Open>()
     }
 }

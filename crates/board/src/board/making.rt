@@ -15,6 +15,7 @@ use crate::lookup::is_named;
 use grades::kind::GradeKind;
 use piles::pile::Pile;
 use reasoning::Fact;
+use std::marker::PhantomData;
 use terms::terms::Terms;
 
 /// Writes `g` to the words from `low` up to `high`.
@@ -44,6 +45,7 @@ impl<'a, K: GradeKind> OpenBoard<'a, K> {
             roles,
             steps: 0,
             kind,
+            stage: PhantomData,
         }
     }
 
@@ -75,6 +77,7 @@ impl<'a, K: GradeKind> OpenBoard<'a, K> {
                 roles: 0,
                 steps: 0,
                 kind,
+                stage: PhantomData,
             };
         }
         let mut board = OpenBoard::blank(terms, words, kind);

@@ -1,21 +1,21 @@
-//! Lending an open board for reading.
+//! Lending a board for reading: what it says can be read at either stage.
 ghost use Rattle.std.specs.Prelude.{◌≡◌, ◌<◌, true, false, length, MatchOption};
 ghost use Rattle.terms.specs.Views.{terms_of};
 ghost use Rattle.reasoning.specs.Derivations.{Fits, fact_of};
 ghost use Rattle.saturation.specs.Boards.{First, QuietAt, Quiet};
-ghost use Rattle.board.specs.Views.{board_of, read_of};
+ghost use Rattle.board.specs.Views.{content_of, read_of};
 
-use super::OpenBoard;
+use super::Board;
 use crate::reader::Reader;
 use grades::kind::GradeKind;
 use reasoning::{Fact, Job};
 use saturation::State;
 use terms::terms::Terms;
 
-impl<'a, K: GradeKind> OpenBoard<'a, K> {
+impl<'a, K: GradeKind, S> Board<'a, K, S> {
     /// The board, for reading.
     pub(crate) fn reader(&self) -> Reader<'_>
-        ensures view { read_of result ≡ board_of self.now }
+        ensures view { read_of result ≡ content_of self.now }
         ensures concepts { result.concepts ≡ self.now.concepts }
         ensures roles { result.roles ≡ self.now.roles }
     {
@@ -27,10 +27,17 @@ impl<'a, K: GradeKind> OpenBoard<'a, K> {
         }
     }
 
+    /// How many steps were done since the board was made, up to the greatest number of 64 bits.
+    pub fn steps(&self) -> u64
+        ensures { result ≡ (content_of self.now).steps }
+    {
+        self.steps
+    }
+
     /// The found grade of a fact.
     pub(crate) fn found(&self, fact: Fact) -> u16
         requires { Fits self.now.concepts self.now.roles fact }
-        ensures { result ≡ (board_of self.now).found fact }
+        ensures { result ≡ (content_of self.now).found fact }
     {
         self.reader().found(fact)
     }
@@ -38,7 +45,7 @@ impl<'a, K: GradeKind> OpenBoard<'a, K> {
     /// The done grade of a job.
     pub(crate) fn done(&self, job: Job) -> u16
         requires { Fits self.now.concepts self.now.roles (fact_of job) }
-        ensures { result ≡ (board_of self.now).done job }
+        ensures { result ≡ (content_of self.now).done job }
     {
         self.reader().done(job)
     }
@@ -46,7 +53,7 @@ impl<'a, K: GradeKind> OpenBoard<'a, K> {
     /// The state of a concept.
     pub(crate) fn state(&self, c: usize) -> State
         requires { c < self.now.concepts }
-        ensures { result ≡ (board_of self.now).state c }
+        ensures { result ≡ (content_of self.now).state c }
     {
         self.reader().state(c)
     }
@@ -56,7 +63,7 @@ impl<'a, K: GradeKind> OpenBoard<'a, K> {
         requires concepts { self.now.concepts ≡ length (terms_of terms.now).concepts }
         requires roles { self.now.roles ≡ (terms_of terms.now).roles }
         requires left { c < length (terms_of terms.now).concepts }
-        ensures { MatchOption result (QuietAt (terms_of terms.now) (board_of self.now) c) (First (terms_of terms.now) (board_of self.now) c) }
+        ensures { MatchOption result (QuietAt (terms_of terms.now) (content_of self.now) c) (First (terms_of terms.now) (content_of self.now) c) }
     {
         self.reader().first(terms, c)
     }
@@ -65,8 +72,8 @@ impl<'a, K: GradeKind> OpenBoard<'a, K> {
     pub(crate) fn any_waits(&self, terms: &Terms) -> bool
         requires concepts { self.now.concepts ≡ length (terms_of terms.now).concepts }
         requires roles { self.now.roles ≡ (terms_of terms.now).roles }
-        ensures waits { result ≡ true → Quiet (terms_of terms.now) (board_of self.now) → ⊥ }
-        ensures quiet { result ≡ false → Quiet (terms_of terms.now) (board_of self.now) }
+        ensures waits { result ≡ true → Quiet (terms_of terms.now) (content_of self.now) → ⊥ }
+        ensures quiet { result ≡ false → Quiet (terms_of terms.now) (content_of self.now) }
     {
         self.reader().any_waits(terms)
     }

@@ -1,0 +1,28 @@
+use Rattle.std.proofs.Common.{sym, refl, subst₂, arith}
+use Rattle.terms.specs.Views.{terms_of}
+use Rattle.saturation.specs.Effects.{SameGrades}
+use Rattle.board.specs.Views.{board_of}
+use Rattle.board.specs.Refusals.{RecheckRejected}
+use Rattle.board.proofs.Frames.{kept_same}
+use Rattle.board.proofs.AsStated.{same_sane}
+use Rattle.board.proofs.board.calls.OpenBoard+K.recheck.Goals as goal
+
+pub review-requires : goal.review-requires
+review-requires g c = let R = c.in_default.ensures in record { ready = R; left = omega (arith, R.concepts) }
+
+pub returns-in-Err : goal.returns-in-Err
+returns-in-Err g c = record { kept = kept_same; sane = λ S. S; rechecked = (RecheckRejected.unready c.in-Err.ensures, refl, refl, refl) }
+
+pub returns-then-lowered-self : goal.returns-then-lowered-self
+returns-then-lowered-self g c =
+    let R = c.in_default.ensures in
+    record { kept = kept_same; sane = λ S. S; rechecked = (RecheckRejected.unfit_lease (R.concepts, R.roles) R.wide (omega arith), refl, refl, refl) }
+
+pub returns : goal.returns
+returns g c =
+    let v = terms_of c.args.terms.now in
+    let a = c.args.self.now in
+    let b = c.review.new.self in
+    let R = c.in_default.ensures in
+    let G : SameGrades a.concepts a.roles (board_of a) (board_of b) = subst₂ (λ n m. SameGrades n m (board_of a) (board_of b)) (sym R.concepts) (sym R.roles) c.review.ensures.rechecked.grades in
+    record { kept = c.review.ensures.kept; sane = same_sane a.concepts a.roles g.K.GradeKind.kind (board_of a) (board_of b) G; rechecked = (R, c.review.ensures.rechecked) }
