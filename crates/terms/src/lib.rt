@@ -3,6 +3,7 @@
 
 pub mod collector;
 pub mod entry;
+mod front;
 pub mod records;
 pub mod tally;
 pub mod terms;

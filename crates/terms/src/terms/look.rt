@@ -11,16 +11,14 @@ impl<'a> Terms<'a> {
     pub fn concepts(&self) -> &[Concept]
         ensures { result.now ≡ (terms_of self.now).concepts }
     {
-        let all = &*self.concepts;
-        &all[0..self.concept_count]
+        self.concepts.as_slice()
     }
 
     /// The inclusions, in the order of their statement.
     pub fn inclusions(&self) -> &[Inclusion]
         ensures { result.now ≡ (terms_of self.now).inclusions }
     {
-        let all = &*self.inclusions;
-        &all[0..self.inclusion_count]
+        self.inclusions.as_slice()
     }
 
     /// How many roles there are.

@@ -19,8 +19,8 @@ returns-in-Err c =
 pub list_terms-requires : goal.list_terms-requires
 list_terms-requires c =
     let t = c.read.new.terms in
-    let long : length t.concepts.now ≡ 40 = c.in_default.ensures.terms.1.long_concepts ∙ ap length c.empty-terms.ensures.concepts.0 in
-    record { few = omega (arith, length-take t.concept_count t.concepts.now); room = omega (arith, c.told-page) }
+    let long : length t.concepts.list.now ≡ 40 = c.in_default.ensures.terms.1.long_concepts ∙ ap length c.empty-terms.ensures.concepts.0 in
+    record { few = omega (arith, length-take t.concepts.count t.concepts.list.now); room = omega (arith, c.told-page) }
 
 pub returns-in-Ok : goal.returns-in-Ok
 returns-in-Ok c =

@@ -1,0 +1,85 @@
+use Rattle.std.proofs.Common.{◌≡◌, ◌+◌, ◌<◌, length, set, sym, refl, ap, subst, arith, rules}
+use lib.Bits.{bit_or}
+use Rattle.std.proofs.lemmas.Nat.{one_shl}
+use Rattle.terms.specs.declared.entry.Entry.TheVariants as entry
+use Rattle.terms.specs.Counting.{Allowed}
+use Rattle.terms.specs.Entries.{with_concepts, with_inclusions}
+use Rattle.terms.specs.Lent.{tally_of}
+use Rattle.terms.specs.Rule.{Reflexive, Transitive, OnRoles, FlaggedRoles}
+use Rattle.terms.specs.Views.{contents_of}
+use Rattle.terms.proofs.Grown.{over_itself, pushed_front, pushed_long, pushed_over}
+use Rattle.terms.proofs.Preorder.{role_reflexive, role_transitive, role_on, flag_on}
+use Rattle.terms.proofs.terms.Terms.put.Goals as goal
+
+pub invariant_of-self-in-Role : goal.invariant_of-self-in-Role
+invariant_of-self-in-Role c =
+    let s = c.args.self.now in
+    let n = s.role_count in
+    let long : length s.order ≡ 32 = search rules in
+    let few : n < 32 = rw c.in-Role.is at c.requires in
+    let lt : n < length s.order = omega arith in
+    let e = sym (one_shl n 32 few) in
+    record {
+      fits = (omega arith, omega arith, omega arith);
+      earlier = (λ k h. (omega (arith, (s.earlier k h).0), omega (arith, (s.earlier k h).1)));
+      named = s.named;
+      reflexive = subst (λ w. Reflexive (n + 1) (set s.order n w)) e (role_reflexive n s.order lt s.on_roles s.reflexive);
+      chains = subst (λ w. Transitive (set s.order n w)) e (role_transitive n s.order lt s.on_roles s.chains);
+      on_roles = subst (λ w. OnRoles (n + 1) (set s.order n w)) e (role_on n s.order lt s.on_roles);
+      flagged = (λ a h. omega (arith, s.flagged a h));
+    }
+
+pub invariant_of-self-in-Transitive : goal.invariant_of-self-in-Transitive
+invariant_of-self-in-Transitive c =
+    let s = c.args.self.now in
+    let r = c.in-Transitive.r in
+    let there : r < s.role_count = rw c.in-Transitive.is at c.requires in
+    record {
+      fits = s.fits;
+      earlier = s.earlier;
+      named = s.named;
+      reflexive = s.reflexive;
+      chains = s.chains;
+      on_roles = s.on_roles;
+      flagged = subst (λ w. FlaggedRoles s.role_count (bit_or s.transitive w)) (sym (one_shl r 32 (omega arith))) (flag_on s.role_count s.transitive r there s.flagged);
+    }
+
+pub returns-in-Concept : goal.returns-in-Concept
+returns-in-Concept c =
+    let s = c.args.self.now in
+    let f = s.concepts in
+    let g = c.push.new.self in
+    let p = c.push.ensures in
+    let allowed : Allowed (tally_of s) (entry.Concept c.in-Concept.c) = rw c.in-Concept.is at c.requires in
+    let lt : f.count < length f.list.now = omega (arith, allowed.1) in
+    rw c.in-Concept.is (
+      ap (with_concepts (contents_of s)) (pushed_front f g c.in-Concept.c p.list p.count lt),
+      record {
+        same_concepts = p.same;
+        same_inclusions = refl;
+        long_concepts = pushed_long f g c.in-Concept.c p.list p.count lt;
+        long_inclusions = refl;
+        concepts = pushed_over f g c.in-Concept.c p.list p.count lt;
+        inclusions = over_itself s.inclusions.count s.inclusions.list.now s.inclusions.fits;
+      },
+    )
+
+pub returns-in-Inclusion : goal.returns-in-Inclusion
+returns-in-Inclusion c =
+    let s = c.args.self.now in
+    let f = s.inclusions in
+    let g = c.push-in-Inclusion.new.self in
+    let p = c.push-in-Inclusion.ensures in
+    let allowed : Allowed (tally_of s) (entry.Inclusion c.in-Inclusion.i) = rw c.in-Inclusion.is at c.requires in
+    let lt : f.count < length f.list.now = omega (arith, allowed.1) in
+    rw c.in-Inclusion.is (
+      ap (with_inclusions (contents_of s)) (pushed_front f g c.in-Inclusion.i p.list p.count lt),
+      record {
+        same_concepts = refl;
+        same_inclusions = p.same;
+        long_concepts = refl;
+        long_inclusions = pushed_long f g c.in-Inclusion.i p.list p.count lt;
+        concepts = over_itself s.concepts.count s.concepts.list.now s.concepts.fits;
+        inclusions = pushed_over f g c.in-Inclusion.i p.list p.count lt;
+      },
+    )
