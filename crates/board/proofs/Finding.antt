@@ -1,12 +1,12 @@
 -- From the parts of the search to the first job that waits at a concept.
-use Rattle.std.proofs.Common.{◌≡◌, ℕ, ◌+◌, ◌<◌, ◌≤◌, length, Some, None, Option, sym, subst, ⊎_elim, arith}
+use Rattle.std.proofs.Common.{◌≡◌, ℕ, ◌+◌, ◌<◌, ◌≤◌, length, Some, None, Option, MatchOption, sym, subst, ⊎_elim, arith}
 use Rattle.std.proofs.lemmas.Bool.{cases_eq}
 use Rattle.terms.specs.declared.records.Concept.TheVariants.{Restriction}
 use Rattle.terms.specs.Vocabularies.{Vocabulary, Is}
 use Rattle.reasoning.specs.declared.Job.{Job}
 use Rattle.reasoning.specs.declared.Job.TheVariants.{Own as own, Link as link, Imply as imply}
 use Rattle.reasoning.specs.Derivations.{Fits, fact_of, JobAt, at_left, at_filler, at_premise}
-use Rattle.saturation.specs.Boards.{Board, First, QuietAt, Before, own_own, own_link, own_imply, link_left, link_right, link_imply, imply_role, imply_right}
+use Rattle.saturation.specs.Boards.{Board, Waits, First, QuietAt, Before, own_own, own_link, own_imply, link_left, link_right, link_imply, imply_role, imply_right}
 use Rattle.board.specs.declared.reader.finding.Line.{Line}
 use Rattle.board.specs.declared.reader.finding.Line.TheVariants.{Owns, Links, Implications}
 use Rattle.board.specs.Searches.{job_of, Lies, Rests, NoneBelow, FirstBelow, NoLinks, FirstLink, BestLink, NoImplications, FirstImplication}
@@ -15,6 +15,11 @@ pub line_fits : (n m : ℕ) (l : Line) (i : ℕ) → Lies n m l → i < n → Fi
 line_fits n m (Owns c) i h l = (h, l)
 line_fits n m (Links x) i h l = (l, h)
 line_fits n m (Implications s c) i h l = (h.0, h.1, l)
+
+-- the first number below n at which a line's job waits
+pub first_of : (b : Board) (l : Line) (n : ℕ) (r : Option ℕ) → MatchOption r ((k : ℕ) → 0 ≤ k → k < n → Rests b (job_of l k)) (λ i. (0 ≤ i) × (i < n) × Waits b (job_of l i) × ((k : ℕ) → 0 ≤ k → k < i → Rests b (job_of l k))) → MatchOption r (NoneBelow b l n) (FirstBelow b l n)
+first_of b l n None h = λ i d. h i (omega arith) d
+first_of b l n (Some i) h = record { below = h.1; waits = h.2; none_before = λ k d. h.3 k (omega arith) d }
 
 -- how far left a better link job has to be, where there are n concepts
 abbrev pub leftmost : ℕ → Option (ℕ × ℕ) → ℕ

@@ -1,8 +1,9 @@
 -- Tests over the numbers below a bound, and the list of those that pass.
-use Rattle.std.proofs.Common.{◌≡◌, ℕ, zero, suc, ◌+◌, ◌<◌, ◌≤◌, Bool, true, false, cond, ◌&&◌, List, [], ◌∷◌, ◌++◌, length, drop, set, sym, refl, ap, ◌∙◌, inl, inr, append_assoc, append-nil, add-one, arith, length-append, drop-cons}
-use Rattle.std.specs.List.{range_with_len, list_all, filter}
-use Rattle.std.proofs.lemmas.Bool.{cases_eq, cases_Bool}
-use Rattle.std.proofs.lemmas.List.FromFn.{map-range_with_len_more}
+use Rattle.std.proofs.Common.{◌≡◌, ℕ, zero, suc, ◌+◌, ◌<◌, ◌≤◌, Bool, true, false, cond, ◌&&◌, List, [], ◌∷◌, ◌++◌, length, drop, set, sym, refl, ap, ◌∙◌, subst, inl, inr, append_assoc, append-nil, add-one, arith, length-append, drop-cons}
+use Rattle.std.specs.Bool.{MatchBool}
+use Rattle.std.specs.List.{range_with_len, list_all, filter, AllWithin}
+use Rattle.std.proofs.lemmas.Bool.{cases_eq, cases_Bool, false≢true}
+use Rattle.std.proofs.lemmas.List.FromFn.{length-range_with_len, get_or-range_with_len, map-range_with_len_more}
 use Rattle.std.proofs.lemmas.List.Folds.{list_all-append}
 use Rattle.std.proofs.lemmas.List.Elements.{filter-append}
 use mathlib.Core.List.{map-id}
@@ -29,6 +30,11 @@ pub filter_of_range : (f : ℕ → Bool) (n : ℕ) → filter f (range_with_len 
 filter_of_range f zero = refl
 filter_of_range f (suc n) =
     ap (filter f) (range_more n) ∙ filter-append f (range_with_len 0 n) (n ∷ []) ∙ ap (λ xs. xs ++ filter f (n ∷ [])) (filter_of_range f n)
+
+-- what holds of each number of a range where no number passes
+pub each_of_range : (P : ℕ → Type 0) (Q : Type 0) (n : ℕ) (r : Bool) → MatchBool r Q (AllWithin P (range_with_len 0 n) 0 (length (range_with_len 0 n))) → r ≡ false → (k : ℕ) → k < n → P k
+each_of_range P Q n true h e k l = absurd (false≢true (sym e))
+each_of_range P Q n false h e k l = subst P (get_or-range_with_len 0 n k 0 l ∙ omega arith) (h k 0 (omega arith) (omega (arith, length-range_with_len 0 n)))
 
 -- ---- those that pass
 

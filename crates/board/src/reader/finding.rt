@@ -53,12 +53,7 @@ impl<'b> Reader<'b> {
         requires end { end ≤ self.now.concepts }
         ensures { MatchOption result (NoneBelow (read_of self.now) line end) (FirstBelow (read_of self.now) line end) }
     {
-        for i in 0..end {
-            if self.waits(line.job(i)) {
-                return Some(i);
-            }
-        }
-        None
+        (0..end).find(|i| self.waits(line.job(*i)))
     }
 
     /// The first link job that waits at `c`, by its left and its right concept, where `best` is the first of those by concepts
@@ -141,14 +136,8 @@ impl<'b> Reader<'b> {
         ensures waits { result ≡ true → Quiet (terms_of terms.now) (read_of self.now) → ⊥ }
         ensures quiet { result ≡ false → QuietWhere (terms_of terms.now) (read_of self.now) idle (length (terms_of terms.now).concepts) }
     {
-        for c in 0..self.concepts {
-            if self.is_idle(c) == idle {
-                if let Some(_) = self.first(terms, c as u16) {
-                    return true;
-                }
-            }
-        }
-        false
+        (0..self.concepts as u16)
+            .any(|c| self.is_idle(c as usize) == idle && self.first(terms, c).is_some())
     }
 
     /// Whether a job waits anywhere. Concepts that are not idle come first, since jobs wait mostly there.
