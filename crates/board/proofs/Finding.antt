@@ -1,12 +1,14 @@
 -- From the parts of the search to the first job that waits at a concept.
-use Rattle.std.proofs.Common.{◌≡◌, ℕ, ◌+◌, ◌<◌, ◌≤◌, length, Some, None, Option, sym, subst, ⊎_elim, arith}
+use Rattle.std.proofs.Common.{◌≡◌, ℕ, ◌+◌, ◌<◌, ◌≤◌, length, Some, None, Option, MatchOption, sym, subst, ⊎_elim, arith}
+use Rattle.std.specs.Option.{option_or, option_map}
 use Rattle.std.proofs.lemmas.Bool.{cases_eq}
 use Rattle.terms.specs.declared.records.Concept.TheVariants.{Restriction}
 use Rattle.terms.specs.Vocabularies.{Vocabulary, Is}
 use Rattle.reasoning.specs.declared.Job.{Job}
 use Rattle.reasoning.specs.declared.Job.TheVariants.{Own as own, Link as link, Imply as imply}
 use Rattle.reasoning.specs.Derivations.{Fits, fact_of, JobAt, at_left, at_filler, at_premise}
-use Rattle.saturation.specs.Boards.{Board, First, QuietAt, Before, own_own, own_link, own_imply, link_left, link_right, link_imply, imply_role, imply_right}
+use Rattle.saturation.specs.Boards.{Board, Waits, First, QuietAt, Before, own_own, own_link, own_imply, link_left, link_right, link_imply, imply_role, imply_right}
+use Rattle.board.specs.declared.reader.finding.Link.{Link}
 use Rattle.board.specs.declared.reader.finding.Line.{Line}
 use Rattle.board.specs.declared.reader.finding.Line.TheVariants.{Owns, Links, Implications}
 use Rattle.board.specs.Searches.{job_of, Lies, Rests, NoneBelow, FirstBelow, NoLinks, FirstLink, BestLink, NoImplications, FirstImplication}
@@ -16,10 +18,15 @@ line_fits n m (Owns c) i h l = (h, l)
 line_fits n m (Links x) i h l = (l, h)
 line_fits n m (Implications s c) i h l = (h.0, h.1, l)
 
+-- the first number below n at which a line's job waits
+pub first_of : (b : Board) (l : Line) (n : ℕ) (r : Option ℕ) → MatchOption r ((k : ℕ) → 0 ≤ k → k < n → Rests b (job_of l k)) (λ i. (0 ≤ i) × (i < n) × Waits b (job_of l i) × ((k : ℕ) → 0 ≤ k → k < i → Rests b (job_of l k))) → MatchOption r (NoneBelow b l n) (FirstBelow b l n)
+first_of b l n None h = λ i d. h i (omega arith) d
+first_of b l n (Some i) h = record { below = h.1; waits = h.2; none_before = λ k d. h.3 k (omega arith) d }
+
 -- how far left a better link job has to be, where there are n concepts
-abbrev pub leftmost : ℕ → Option (ℕ × ℕ) → ℕ
+abbrev pub leftmost : ℕ → Option Link → ℕ
 leftmost n None = n
-leftmost n (Some t) = t.0
+leftmost n (Some l) = l.left
 
 module _ (v : Vocabulary) (b : Board) (c x : ℕ) where
   -- a fact of the concepts below x, and of x, is one of those below x + 1
@@ -30,14 +37,14 @@ module _ (v : Vocabulary) (b : Board) (c x : ℕ) where
   links_more n before here y r l = one_more (λ z. (r : ℕ) → Is v z (Restriction r c) → NoneBelow b (Links z) n) (λ z h q. before z q h) here y l r
 
   -- the concept x brings no link job that waits further left
-  pub best_same : (best : Option (ℕ × ℕ)) → BestLink v b c x best → ((r : ℕ) → Is v x (Restriction r c) → NoneBelow b (Links x) (leftmost (length v.concepts) best)) → BestLink v b c (x + 1) best
+  pub best_same : (best : Option Link) → BestLink v b c x best → ((r : ℕ) → Is v x (Restriction r c) → NoneBelow b (Links x) (leftmost (length v.concepts) best)) → BestLink v b c (x + 1) best
   best_same None B here = links_more (length v.concepts) B here
-  best_same (Some t) B here = record {
+  best_same (Some l) B here = record {
     left = B.left;
     right = (let l = B.right in omega arith);
     shape = B.shape;
     waits = B.waits;
-    none_left = links_more t.0 B.none_left here;
+    none_left = links_more l.left B.none_left here;
     none_before = B.none_before;
   }
 
@@ -52,9 +59,14 @@ module _ (v : Vocabulary) (b : Board) (c x : ℕ) where
     none_before = λ y q l i. before y q l i a F.below;
   }
 
-  pub best_new : (best : Option (ℕ × ℕ)) (a r : ℕ) → BestLink v b c x best → Is v x (Restriction r c) → FirstBelow b (Links x) (leftmost (length v.concepts) best) a → FirstLink v b c (x + 1) a x
+  best_new : (best : Option Link) (a r : ℕ) → BestLink v b c x best → Is v x (Restriction r c) → FirstBelow b (Links x) (leftmost (length v.concepts) best) a → FirstLink v b c (x + 1) a x
   best_new None a r B I F = better a r (length v.concepts) (omega arith) B I F
-  best_new (Some t) a r B I F = better a r t.0 (let l = B.left in omega arith) B.none_left I F
+  best_new (Some t) a r B I F = better a r t.left (let l = B.left in omega arith) B.none_left I F
+
+  -- what is best of those before and of x
+  pub best_next : (best : Option Link) (n r : ℕ) (found : Option ℕ) → n ≡ leftmost (length v.concepts) best → BestLink v b c x best → Is v x (Restriction r c) → MatchOption found (NoneBelow b (Links x) n) (FirstBelow b (Links x) n) → BestLink v b c (x + 1) (option_or (option_map (λ a. record { left = a; right = x }) found) best)
+  best_next best n r None e B I h = best_same best B (λ q i. rw (sym e) h)
+  best_next best n r (Some a) e B I h = best_new best a r B I (rw (sym e) h)
 
 module _ (v : Vocabulary) (b : Board) where
   before_own : {c d : ℕ} {i : Job} → Before i (own c d) → NoneBelow b (Owns c) d → Rests b i
@@ -101,3 +113,18 @@ module _ (v : Vocabulary) (b : Board) where
     waits = F.here.waits;
     none_before = λ i at before. before_imply q O L F at before;
   }
+
+  -- the first role by which an implication job waits
+  pub implication_of : (n m c : ℕ) (r : Option Job) → n ≡ length v.concepts → m ≡ v.roles → MatchOption r ((s : ℕ) → s < m → NoneBelow b (Implications s c) n) (λ j. (s : ℕ) × (s < m) × ((e : ℕ) × (j ≡ imply s c e) × FirstBelow b (Implications s c) n e) × ((t : ℕ) → t < s → NoneBelow b (Implications t c) n)) → MatchOption r (NoImplications v b c v.roles) (λ j. (s : ℕ) × (e : ℕ) × (j ≡ imply s c e) × FirstImplication v b c s e)
+  implication_of n m c None p q h = λ s l. rw (sym p) (h s (omega arith))
+  implication_of n m c (Some j) p q h = (
+    h.0,
+    h.2.0,
+    h.2.1,
+    record { role = (let l = h.1 in omega arith); here = rw (sym p) h.2.2; none_before = λ t l. rw (sym p) (h.3 t l) },
+  )
+
+  -- where no own and no link job waits, the first implication job that waits is the first of all
+  pub last_of : (n c : ℕ) (r : Option Job) → n ≡ length v.concepts → c < length v.concepts → NoneBelow b (Owns c) n → NoLinks v b c (length v.concepts) (length v.concepts) → MatchOption r (NoImplications v b c v.roles) (λ j. (s : ℕ) × (e : ℕ) × (j ≡ imply s c e) × FirstImplication v b c s e) → MatchOption r (QuietAt v b c) (First v b c)
+  last_of n c None q l O L h = quiet_at n c q O L h
+  last_of n c (Some j) q l O L h = rw h.2 (first_imply n c h.0 h.1 q l O L h.3)

@@ -1,8 +1,16 @@
 -- Tests over the numbers below a bound, and the list of those that pass.
-use Rattle.std.proofs.Common.{◌≡◌, ℕ, zero, suc, ◌+◌, ◌<◌, ◌≤◌, Bool, true, false, cond, ◌&&◌, List, [], ◌∷◌, ◌++◌, length, drop, set, sym, refl, ap, ◌∙◌, inl, inr, append_assoc, append-nil, add-one, arith, length-append, drop-cons}
-use Rattle.std.specs.List.{range_with_len, list_all, filter}
-use Rattle.std.proofs.lemmas.Bool.{cases_eq, cases_Bool}
-use Rattle.std.proofs.lemmas.List.FromFn.{map-range_with_len_more}
+use Rattle.std.proofs.Common.{◌≡◌, ℕ, zero, suc, ◌+◌, ◌<◌, ◌≤◌, Bool, true, false, cond, ◌&&◌, Option, Some, None, MatchOption, List, [], ◌∷◌, ◌++◌, length, drop, set, sym, refl, ap, ◌∙◌, subst, inl, inr, append_assoc, append-nil, add-one, arith, length-append, drop-cons}
+use Rattle.std.specs.Bool.{MatchBool}
+use Rattle.std.specs.Fn.{Called}
+use Rattle.std.specs.Iterator.Runs.{Run, SomeRun, ItemsCountUp, CallKeepsClosure, AllItemsGive, IsFirstToGive}
+use Rattle.std.specs.Option.{IfSome, IsSomeAnd, option_map}
+use Rattle.std.specs.declared.ops.Range.{Range}
+use Rattle.std.proofs.iter.Yields.{nat_range_steps}
+use Rattle.std.proofs.iter.runs.Sources.{range_runs}
+use denote.Param.Members.{Mut}
+use Rattle.std.specs.List.{range_with_len, list_all, filter, AllWithin}
+use Rattle.std.proofs.lemmas.Bool.{cases_eq, cases_Bool, false≢true}
+use Rattle.std.proofs.lemmas.List.FromFn.{length-range_with_len, get_or-range_with_len, map-range_with_len_more}
 use Rattle.std.proofs.lemmas.List.Folds.{list_all-append}
 use Rattle.std.proofs.lemmas.List.Elements.{filter-append}
 use mathlib.Core.List.{map-id}
@@ -29,6 +37,58 @@ pub filter_of_range : (f : ℕ → Bool) (n : ℕ) → filter f (range_with_len 
 filter_of_range f zero = refl
 filter_of_range f (suc n) =
     ap (filter f) (range_more n) ∙ filter-append f (range_with_len 0 n) (n ∷ []) ∙ ap (λ xs. xs ++ filter f (n ∷ [])) (filter_of_range f n)
+
+-- what holds of each number of a range where no number passes
+pub each_of_range : (P : ℕ → Type 0) (Q : Type 0) (n : ℕ) (r : Bool) → MatchBool r Q (AllWithin P (range_with_len 0 n) 0 (length (range_with_len 0 n))) → r ≡ false → (k : ℕ) → k < n → P k
+each_of_range P Q n true h e k l = absurd (false≢true (sym e))
+each_of_range P Q n false h e k l = subst P (get_or-range_with_len 0 n k 0 l ∙ omega arith) (h k 0 (omega arith) (omega (arith, length-range_with_len 0 n)))
+
+-- the item at a place is the place's number
+item_is : (k n : ℕ) (o : Option ℕ) (P : ℕ → Type 0) → option_map (λ y. y) o ≡ Some n → n ≡ k → IfSome o P → P k
+item_is k n None P e i h = absurd (let z : ◌≡◌ {A = ℕ} 0 1 = cc in omega arith)
+item_is k n (Some x) P e i h = let q : x ≡ k = cc in subst P q h
+
+item_has : (k n : ℕ) (o : Option ℕ) (P : ℕ → Type 0) → option_map (λ y. y) o ≡ Some n → n ≡ k → IsSomeAnd o P → P k
+item_has k n None P e i h = absurd h
+item_has k n (Some x) P e i h = let q : x ≡ k = cc in subst P q h
+
+-- what `find_map` answers over a range: nothing, where nothing is found at any number, or what is found at the first number at which something is
+pub first_mapped : {F B : Type 0} {g : Mut F (ℕ × Unit {0}) (Option B)} (s : Range ℕ) (n : ℕ) (f : F) (r : Option B) (Yes : B → ℕ → Type 0) (No : ℕ → Type 0)
+    → s ≡ record { start = 0; end = n }
+    → SomeRun nat_range_steps s (λ p. MatchOption r ((p.whole ≡ true) × AllItemsGive p g f None) (λ y. (i : ℕ) × (i < p.len) × (p.len ≡ i + 1) × IsFirstToGive p g f (Some y) None i))
+    → ((x : ℕ) (a : Option B) (q : F) → Called g f (x, tt) a q → (q ≡ f) × MatchOption a (No x) (λ y. Yes y x))
+    → MatchOption r ((k : ℕ) → k < n → No k) (λ y. (i : ℕ) × (i < n) × Yes y i × ((k : ℕ) → k < i → No k))
+first_mapped {F} {B} {g} s n f r Yes No e d call = go r d.2
+  where
+    p : Run nat_range_steps
+    p = d.0
+
+    up : ItemsCountUp p p.from.start p.from.end
+    up = range_runs p p.seen
+
+    start : p.from.start ≡ 0
+    start = ap (λ t. t.start) (d.1 ∙ e)
+
+    end : p.from.end ≡ n
+    end = ap (λ t. t.end) (d.1 ∙ e)
+
+    keeps : CallKeepsClosure g f
+    keeps a b q k = (call a.0 b q k).0
+
+    none : (k : ℕ) → k < p.len → IsSomeAnd (p.at k) (λ x. Called g f (x, tt) None f) → No k
+    none k l h = (call k None f (item_has k (p.from.start + k) (p.at k) (λ x. Called g f (x, tt) None f) (up.3 k l) (omega (arith, start)) h)).1
+
+    go : (o : Option B) → MatchOption o ((p.whole ≡ true) × AllItemsGive p g f None) (λ y. (i : ℕ) × (i < p.len) × (p.len ≡ i + 1) × IsFirstToGive p g f (Some y) None i) → MatchOption o ((k : ℕ) → k < n → No k) (λ y. (i : ℕ) × (i < n) × Yes y i × ((k : ℕ) → k < i → No k))
+    go None h = λ k l.
+        let m : k < p.len = omega (arith, up.1 h.0, start, end) in
+        (call k None f (item_is k (p.from.start + k) (p.at k) (λ x. Called g f (x, tt) None f) (up.3 k m) (omega (arith, start)) (h.1 keeps k))).1
+    go (Some y) h =
+        let here = h.3 keeps in (
+          h.0,
+          omega (arith, up.0, start, end, h.1),
+          (call h.0 (Some y) f (item_has h.0 (p.from.start + h.0) (p.at h.0) (λ x. Called g f (x, tt) (Some y) f) (up.3 h.0 h.1) (omega (arith, start)) here.0)).1,
+          λ k l. none k (omega (arith, h.1)) (here.1 k l),
+        )
 
 -- ---- those that pass
 

@@ -48,8 +48,8 @@ wanted_test Parents n v k b p a c = parent_test n v k b p a c
 
 -- a test of the concept and the point that are asked about
 abbrev pub asked_of : {X T : Type 0} → (Vocabulary → Kind → Board → ℕ → ℕ → T) → Kind → Asked X → T
-asked_of test k a = test (terms_of a.terms.now) k (read_of a.reader) a.point a.concept
+asked_of test k a = test (terms_of a.board.terms.now) k (read_of a.board.reader) a.point a.concept
 
 -- the test of what is asked of them
 abbrev pub wanted : {X : Type 0} → Kind → Asked X → ℕ → Bool
-wanted k a = asked_of (wanted_test a.question a.reader.concepts) k a
+wanted k a = asked_of (wanted_test a.question a.board.reader.concepts) k a

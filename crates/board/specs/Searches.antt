@@ -8,6 +8,7 @@ use Rattle.reasoning.specs.Derivations.{fact_of}
 use Rattle.saturation.specs.Boards.{Board, Waits, QuietAt}
 use Rattle.board.specs.Views.{is_idle}
 use Rattle.board.specs.declared.reader.Reader.{Reader}
+use Rattle.board.specs.declared.reader.finding.Link.{Link}
 use Rattle.board.specs.declared.reader.finding.Line.{Line}
 use Rattle.board.specs.declared.reader.finding.Line.TheVariants.{Owns, Links, Implications}
 
@@ -55,10 +56,10 @@ pub record FirstLink (v : Vocabulary) (b : Board) (c i a x : ℕ) : Type 0 where
   pub none_left : NoLinks v b c i a
   pub none_before : (y r : ℕ) → y < x → Is v y (Restriction r c) → Rests b (link a y)
 
--- none waits of those by concepts below i, or the first of them is known by its left and its right concept
-abbrev pub BestLink : Vocabulary → Board → ℕ → ℕ → Option (ℕ × ℕ) → Type 0
+-- none waits of those by concepts below i, or the first of them is known
+abbrev pub BestLink : Vocabulary → Board → ℕ → ℕ → Option Link → Type 0
 BestLink v b c i None = NoLinks v b c i (length v.concepts)
-BestLink v b c i (Some t) = FirstLink v b c i t.0 t.1
+BestLink v b c i (Some l) = FirstLink v b c i l.left l.right
 
 -- no implication job at c waits by a role below m
 abbrev pub NoImplications : Vocabulary → Board → ℕ → ℕ → Type 0

@@ -5,6 +5,7 @@ ghost use Rattle.board.specs.Layout.{room};
 pub(crate) mod asking;
 pub(crate) mod cells;
 mod finding;
+pub(crate) mod reading;
 
 /// The words of a board, lent for reading, and its counts.
 #[derive(Clone, Copy)]

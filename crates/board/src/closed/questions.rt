@@ -8,6 +8,7 @@ ghost use Rattle.board.specs.Questions.{SettledOr, Under, Filled, UnderTruth, Li
 
 use super::ClosedBoard;
 use crate::reader::asking::{Asked, Question};
+use crate::reader::reading::Reading;
 use grades::kind::GradeKind;
 use reasoning::Fact;
 use rejections::Rejection;
@@ -58,9 +59,12 @@ impl<'a, K: GradeKind> ClosedBoard<'a, K> {
         if point >= K::points() {
             return Err(Rejection::NoSuchPoint);
         }
-        let asked = Asked {
+        let board = Reading {
             reader: self.reader(),
             terms,
+        };
+        let asked = Asked {
+            board,
             kind: self.kind,
             question,
             concept: a,

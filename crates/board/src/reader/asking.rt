@@ -1,11 +1,9 @@
 //! What can be asked of a concept at a point.
-ghost use Rattle.std.specs.Prelude.{◌≡◌, ◌<◌, length};
-ghost use Rattle.terms.specs.Views.{terms_of};
+ghost use Rattle.std.specs.Prelude.{◌<◌};
 
 mod picking;
 
-use super::Reader;
-use terms::terms::Terms;
+use super::reading::Reading;
 
 /// What is asked of a concept.
 #[derive(Clone, Copy)]
@@ -16,15 +14,13 @@ pub(crate) enum Question {
     Parents,
 }
 
-/// A question about a concept at a point, and the board, its terms and its kind of grade, which answer it.
+/// A question about a concept of a board at a point.
 #[derive(Drop)]
 pub(crate) struct Asked<'b, K> {
-    pub(crate) reader: Reader<'b>,
-    pub(crate) terms: &'b Terms<'b>,
+    pub(crate) board: Reading<'b>,
     pub(crate) kind: K,
     pub(crate) question: Question,
     pub(crate) concept: u16,
     pub(crate) point: u8,
-    ghost same: { reader.concepts ≡ length (terms_of terms.now).concepts },
-    ghost within: { concept < reader.concepts },
+    ghost within: { concept < board.reader.concepts },
 }

@@ -1,6 +1,7 @@
 //! Finding the first job that waits at a concept.
-ghost use Rattle.std.specs.Prelude.{◌≡◌, ◌+◌, ◌<◌, ◌≤◌, true, false, length, MatchOption};
+ghost use Rattle.std.specs.Prelude.{◌≡◌, ℕ, ◌+◌, ◌<◌, ◌≤◌, true, false, length, MatchOption};
 ghost use Rattle.terms.specs.Views.{terms_of};
+ghost use Rattle.reasoning.specs.declared.Job.TheVariants.{Imply as imply};
 ghost use Rattle.reasoning.specs.Derivations.{Fits, fact_of};
 ghost use Rattle.saturation.specs.Boards.{Waits, First, QuietAt, Quiet};
 ghost use Rattle.board.specs.Views.{read_of};
@@ -8,10 +9,18 @@ ghost use Rattle.board.specs.Searches.{Fitted, job_of, Lies, Rests, NoneBelow, F
 
 use super::Reader;
 use super::cells::fact_of;
+use super::reading::Reading;
 use crate::lookup::concept_at;
 use reasoning::Job;
 use terms::records::Concept;
 use terms::terms::Terms;
+
+/// A link job, by its concepts.
+#[derive(Clone, Copy)]
+struct Link {
+    left: u16,
+    right: u16,
+}
 
 /// Jobs that go by the numbers of concepts.
 #[derive(Clone, Copy)]
@@ -53,110 +62,112 @@ impl<'b> Reader<'b> {
         requires end { end ≤ self.now.concepts }
         ensures { MatchOption result (NoneBelow (read_of self.now) line end) (FirstBelow (read_of self.now) line end) }
     {
-        for i in 0..end {
-            if self.waits(line.job(i)) {
-                return Some(i);
-            }
-        }
-        None
+        (0..end).find(|i| self.waits(line.job(*i)))
     }
 
-    /// The first link job that waits at `c`, by its left and its right concept, where `best` is the first of those by concepts
-    /// below `x`, and those by `x` come in too.
-    fn better_link(
-        &self,
-        terms: &Terms,
-        c: u16,
-        x: u16,
-        best: Option<(u16, u16)>,
-    ) -> Option<(u16, u16)>
-        requires fitted { Fitted (terms_of terms.now) self.now }
-        requires by { x < length (terms_of terms.now).concepts }
-        requires best { BestLink (terms_of terms.now) (read_of self.now) c x best }
-        ensures { BestLink (terms_of terms.now) (read_of self.now) c (x + 1) result }
+    /// The first job of a line that waits.
+    fn first_on(&self, line: Line) -> Option<Job>
+        requires { Lies self.now.concepts self.now.roles line }
+        ensures { MatchOption result (NoneBelow (read_of self.now) line self.now.concepts) (λ j. (i : ℕ) × (j ≡ job_of line i) × FirstBelow (read_of self.now) line self.now.concepts i) }
     {
-        let Concept::Restriction(_, b) = concept_at(terms, x) else {
-            return best;
-        };
-        if b != c {
-            return best;
-        }
-        let end = match best {
-            Some((left, _)) => left,
-            None => self.concepts as u16,
-        };
-        match self.first_in(Line::Links(x), end) {
-            Some(left) => Some((left, x)),
-            None => best,
-        }
+        self.first_in(line, self.concepts as u16)
+            .map(|i| line.job(i))
     }
 
-    /// The first link job that waits at `c`, by its left and its right concept.
-    fn first_link(&self, terms: &Terms, c: u16) -> Option<(u16, u16)>
-        requires { Fitted (terms_of terms.now) self.now }
-        ensures { BestLink (terms_of terms.now) (read_of self.now) c (length (terms_of terms.now).concepts) result }
-    {
-        let mut best = None;
-        for x in 0..self.concepts {
-            best = self.better_link(terms, c, x as u16, best);
-        }
-        best
-    }
-
-    /// The first implication job that waits at `c`, by its role and its right concept.
-    fn first_implication(&self, terms: &Terms, c: u16) -> Option<(u16, u16)>
-        requires fitted { Fitted (terms_of terms.now) self.now }
-        requires left { c < length (terms_of terms.now).concepts }
-        ensures { MatchOption result (NoImplications (terms_of terms.now) (read_of self.now) c (terms_of terms.now).roles) (λ t. FirstImplication (terms_of terms.now) (read_of self.now) c t.0 t.1) }
-    {
-        for s in 0..self.roles {
-            if let Some(e) = self.first_in(Line::Implications(s as u16, c), self.concepts as u16) {
-                return Some((s as u16, e));
-            }
-        }
-        None
-    }
-
-    /// The first job that waits at `c`: own jobs come first, then link jobs, then implication jobs.
+    /// The first job that waits at `c`, on a board with the counts of these terms.
     pub(crate) fn first(&self, terms: &Terms, c: u16) -> Option<Job>
         requires fitted { Fitted (terms_of terms.now) self.now }
         requires left { c < length (terms_of terms.now).concepts }
         ensures { MatchOption result (QuietAt (terms_of terms.now) (read_of self.now) c) (First (terms_of terms.now) (read_of self.now) c) }
     {
-        if let Some(d) = self.first_in(Line::Owns(c), self.concepts as u16) {
-            return Some(Job::Own(c, d));
-        }
-        if let Some((a, x)) = self.first_link(terms, c) {
-            return Some(Job::Link(a, x));
-        }
-        if let Some((s, e)) = self.first_implication(terms, c) {
-            return Some(Job::Imply(s, c, e));
-        }
-        None
+        let board = Reading {
+            reader: *self,
+            terms,
+        };
+        board.first(c)
     }
 
-    /// Whether a job waits at a concept that is idle, or at one that is not, as asked.
-    fn any_waits_where(&self, terms: &Terms, idle: bool) -> bool
-        requires { Fitted (terms_of terms.now) self.now }
-        ensures waits { result ≡ true → Quiet (terms_of terms.now) (read_of self.now) → ⊥ }
-        ensures quiet { result ≡ false → QuietWhere (terms_of terms.now) (read_of self.now) idle (length (terms_of terms.now).concepts) }
-    {
-        for c in 0..self.concepts {
-            if self.is_idle(c) == idle {
-                if let Some(_) = self.first(terms, c as u16) {
-                    return true;
-                }
-            }
-        }
-        false
-    }
-
-    /// Whether a job waits anywhere. Concepts that are not idle come first, since jobs wait mostly there.
+    /// Whether a job waits anywhere, on a board with the counts of these terms.
     pub(crate) fn any_waits(&self, terms: &Terms) -> bool
         requires { Fitted (terms_of terms.now) self.now }
         ensures waits { result ≡ true → Quiet (terms_of terms.now) (read_of self.now) → ⊥ }
         ensures quiet { result ≡ false → Quiet (terms_of terms.now) (read_of self.now) }
     {
-        self.any_waits_where(terms, false) || self.any_waits_where(terms, true)
+        let board = Reading {
+            reader: *self,
+            terms,
+        };
+        board.any_waits()
+    }
+}
+
+impl<'b> Reading<'b> {
+    /// The first link job that waits at `c`, where `best` is the first of those by concepts below `x`, and those by `x` come in too.
+    fn better_link(&self, c: u16, x: u16, best: Option<Link>) -> Option<Link>
+        requires by { x < length (terms_of self.now.terms.now).concepts }
+        requires best { BestLink (terms_of self.now.terms.now) (read_of self.now.reader) c x best }
+        ensures { BestLink (terms_of self.now.terms.now) (read_of self.now.reader) c (x + 1) result }
+    {
+        let Concept::Restriction(_, b) = concept_at(self.terms, x) else {
+            return best;
+        };
+        if b != c {
+            return best;
+        }
+        let end = best.map_or(self.reader.concepts as u16, |link| link.left);
+        self.reader
+            .first_in(Line::Links(x), end)
+            .map(|left| Link { left, right: x })
+            .or(best)
+    }
+
+    /// The first link job that waits at `c`.
+    fn first_link(&self, c: u16) -> Option<Link>
+        ensures { BestLink (terms_of self.now.terms.now) (read_of self.now.reader) c (length (terms_of self.now.terms.now).concepts) result }
+    {
+        let mut best = None;
+        for x in 0..self.reader.concepts as u16 {
+            best = self.better_link(c, x, best);
+        }
+        best
+    }
+
+    /// The first implication job that waits at `c`.
+    fn first_implication(&self, c: u16) -> Option<Job>
+        requires { c < length (terms_of self.now.terms.now).concepts }
+        ensures { MatchOption result (NoImplications (terms_of self.now.terms.now) (read_of self.now.reader) c (terms_of self.now.terms.now).roles) (λ j. (s : ℕ) × (e : ℕ) × (j ≡ imply s c e) × FirstImplication (terms_of self.now.terms.now) (read_of self.now.reader) c s e) }
+    {
+        (0..self.reader.roles as u16).find_map(|s| self.reader.first_on(Line::Implications(s, c)))
+    }
+
+    /// The first job that waits at `c`: own jobs come first, then link jobs, then implication jobs.
+    fn first(&self, c: u16) -> Option<Job>
+        requires { c < length (terms_of self.now.terms.now).concepts }
+        ensures { MatchOption result (QuietAt (terms_of self.now.terms.now) (read_of self.now.reader) c) (First (terms_of self.now.terms.now) (read_of self.now.reader) c) }
+    {
+        if let Some(job) = self.reader.first_on(Line::Owns(c)) {
+            return Some(job);
+        }
+        if let Some(link) = self.first_link(c) {
+            return Some(Job::Link(link.left, link.right));
+        }
+        self.first_implication(c)
+    }
+
+    /// Whether a job waits at a concept that is idle, or at one that is not, as asked.
+    fn any_waits_where(&self, idle: bool) -> bool
+        ensures waits { result ≡ true → Quiet (terms_of self.now.terms.now) (read_of self.now.reader) → ⊥ }
+        ensures quiet { result ≡ false → QuietWhere (terms_of self.now.terms.now) (read_of self.now.reader) idle (length (terms_of self.now.terms.now).concepts) }
+    {
+        (0..self.reader.concepts as u16).any(|c| self.reader.is_idle(c as usize) == idle
+            && self.first(c).is_some())
+    }
+
+    /// Whether a job waits anywhere. Concepts that are not idle come first, since jobs wait mostly there.
+    fn any_waits(&self) -> bool
+        ensures waits { result ≡ true → Quiet (terms_of self.now.terms.now) (read_of self.now.reader) → ⊥ }
+        ensures quiet { result ≡ false → Quiet (terms_of self.now.terms.now) (read_of self.now.reader) }
+    {
+        self.any_waits_where(false) || self.any_waits_where(true)
     }
 }

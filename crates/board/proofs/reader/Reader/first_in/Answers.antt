@@ -1,9 +1,13 @@
-use Rattle.std.proofs.Common.{refl, subst, below_more}
+use Rattle.std.proofs.Common.{rules, tests, arith}
+use Rattle.std.proofs.lemmas.Iterator.{first_from_Range}
+use Rattle.saturation.specs.Boards.{Waits}
 use Rattle.board.specs.Views.{read_of}
 use Rattle.board.specs.Searches.{job_of, Rests}
+use Rattle.board.proofs.Finding.{first_of}
 use Rattle.board.proofs.reader.Reader.first_in.Goals as goal
 
-pub loop-i-preserved : goal.loop-i-preserved
-loop-i-preserved c =
+pub returns : goal.returns
+returns c =
     let b = read_of c.args.self.now in
-    below_more (λ i. Rests b (job_of c.args.line i)) c.loop-i.i c.loop-i.invariant (subst (λ j. Rests b j) c.job.ensures (c.if-waits.ensures.rests refl))
+    first_of b c.args.line c.args.end c.find.result
+    (first_from_Range _ _ _ c.find.result (λ i. Waits b (job_of c.args.line i)) (λ i. Rests b (job_of c.args.line i)) c.find.ensures.ran (λ x q k. grind (arith, tests)) (λ x q k. (search (rules, tests), grind (arith, tests))))

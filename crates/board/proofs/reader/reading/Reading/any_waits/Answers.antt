@@ -4,7 +4,7 @@ use Rattle.terms.proofs.Formed.{well_formed}
 use Rattle.saturation.specs.Boards.{QuietAt}
 use Rattle.board.specs.Views.{read_of, is_idle}
 use Rattle.board.proofs.Raising.{seated}
-use Rattle.board.proofs.reader.Reader.any_waits.Goals as goal
+use Rattle.board.proofs.reader.reading.Reading.any_waits.Goals as goal
 
 either : (b : Bool) (A : Type 0) → (b ≡ true → A) → (b ≡ false → A) → A
 either true A t f = t refl
@@ -12,13 +12,13 @@ either false A t f = f refl
 
 pub returns-else-any_waits_where : goal.returns-else-any_waits_where
 returns-else-any_waits_where c =
-    let v = terms_of c.args.terms.now in
-    let b = read_of c.args.self.now in
+    let v = terms_of c.args.self.now.terms.now in
+    let b = read_of c.args.self.now.reader in
     let busy = c.if-any_waits_where.ensures.quiet refl in
     let rest = c.any_waits_where-else-any_waits_where.ensures in
     record {
       waits = rest.waits;
       quiet = λ e j x at.
-          let l = seated v (well_formed c.args.terms.now) j x at in
+          let l = seated v (well_formed c.args.self.now.terms.now) j x at in
           either (is_idle (b.state x)) (QuietAt v b x) (rest.quiet e x l) (busy x l) j at;
     }
