@@ -1,6 +1,7 @@
 -- What a settled board answers, and what of it is listed.
-use Rattle.std.proofs.Common.{◌≡◌, ℕ, ◌<◌, Bool, true, not, ◌&&◌, eqb, length, Some, None, Ok, Err, Result, sym, refl, ◌∙◌, inl, inr, arith}
-use Rattle.std.proofs.lemmas.Bool.{and_from, and_parts, and_right, cond-true, cond-false, ne_eqb, eq-eqb, not_from_true, not_from_false, both_ways, cases_Bool, not-true}
+use Rattle.std.proofs.Common.{◌≡◌, ℕ, ◌<◌, Bool, true, false, cond, not, ◌&&◌, eqb, length, Some, None, Ok, Err, Result, sym, refl, ap, ◌∙◌, inl, inr, arith}
+use Rattle.std.proofs.lemmas.Bool.{and_from, and_parts, cond-true, cond-false, ne_eqb, eq-eqb, not_from_false, both_ways, cases_Bool, not-true}
+use Rattle.std.specs.Bool.{then_some}
 use Rattle.rejections.specs.declared.Rejection.{Rejection}
 use Rattle.grades.specs.Kinds.{Kind}
 use Rattle.terms.specs.Vocabularies.{Vocabulary, Named, is_named}
@@ -21,6 +22,11 @@ answered s i l (answer t j k) = refl
 answered s i l (unsettled u) = absurd (never_unsettled refl s u)
 answered s i l (no_concept t h) = absurd (h i l)
 
+-- a value where a test holds
+if_some : (t : Bool) (g : ℕ) → then_some t g ≡ cond t (Some g) None
+if_some true g = refl
+if_some false g = refl
+
 module _ (v : Vocabulary) (k : Kind) (b : Board) (a d : ℕ) where
   abbrev different : Bool
   different = not (eqb a d) && (is_named v a && is_named v d)
@@ -28,14 +34,19 @@ module _ (v : Vocabulary) (k : Kind) (b : Board) (a d : ℕ) where
   abbrev some : Bool
   some = not (eqb (b.found (under a d)) k.none)
 
-  -- two different named concepts with a grade, and without one
+  both_named : (a ≡ d → ⊥) → is_named v a ≡ true → is_named v d ≡ true → different ≡ true
+  both_named ne na nd = and_from (not (eqb a d)) (is_named v a && is_named v d) (not_from_false (eqb a d) (ne_eqb a d ne)) (and_from (is_named v a) (is_named v d) na nd)
+
+  -- two different named concepts with a grade
   pub lists : (a ≡ d → ⊥) → is_named v a ≡ true → is_named v d ≡ true → (b.found (under a d) ≡ k.none → ⊥) → code_to_list v k b a d ≡ Some (b.found (under a d))
   lists ne na nd h =
       cond-true (different && some) (Some (b.found (under a d))) None
-      (and_from different some (and_from (not (eqb a d)) (is_named v a && is_named v d) (not_from_false (eqb a d) (ne_eqb a d ne)) (and_from (is_named v a) (is_named v d) na nd)) (not_from_false _ (ne_eqb _ _ h)))
+      (and_from different some (both_named ne na nd) (not_from_false _ (ne_eqb _ _ h)))
 
-  pub lists_none : b.found (under a d) ≡ k.none → code_to_list v k b a d ≡ None
-  lists_none e = cond-false (different && some) (Some (b.found (under a d))) None (and_right different some (not_from_true _ (eq-eqb _ _ e)))
+  -- what a board answers for two different named concepts is what is listed
+  pub listed_is : (g z : ℕ) → (a ≡ d → ⊥) → is_named v a ≡ true → is_named v d ≡ true → g ≡ b.found (under a d) → z ≡ k.none → then_some (not (eqb g z)) g ≡ code_to_list v k b a d
+  listed_is g z ne na nd e n =
+      rw (e, n) (if_some some (b.found (under a d)) ∙ sym (ap (λ (t : Bool). cond (t && some) (Some (b.found (under a d))) None) (both_named ne na nd)))
 
   -- and the other way round
   pub lists_what : (g : ℕ) → code_to_list v k b a d ≡ Some g → (a ≡ d → ⊥) × Named v a × Named v d × (b.found (under a d) ≡ k.none → ⊥) × (g ≡ b.found (under a d))

@@ -3,14 +3,11 @@ use Rattle.std.proofs.Common.{◌≡◌, ℕ, ◌+◌, ◌≤◌, List, [], ◌�
 use Rattle.listing.specs.declared.page.Row.{Row}
 use Rattle.listing.specs.Pages.{row_bytes, put_at, page_of, Wrote}
 use Rattle.listing.specs.Rows.{row_of, rows_up_to, all_rows}
-use Rattle.listing.proofs.Putting.{put_behind, put_nothing}
+use Rattle.listing.proofs.Putting.{put_behind}
 
 page_behind : (xs ys : List Row) → page_of (xs ++ ys) ≡ page_of xs ++ page_of ys
 page_behind [] ys = refl
 page_behind (x ∷ xs) ys = ap (λ (zs : List ℕ). row_bytes x ++ zs) (page_behind xs ys) ∙ sym (append_assoc (row_bytes x) (page_of xs) (page_of ys))
-
-pub wrote_none : (filled : ℕ) (page : List ℕ) → filled ≤ length page → Wrote [] filled filled 0 page page
-wrote_none filled page l = (put_nothing filled page, omega arith, omega arith)
 
 -- more rows behind them
 pub wrote_more : (xs ys : List Row) (filled at end most more : ℕ) (entry page page' : List ℕ) → filled + most ≤ length entry
@@ -22,12 +19,6 @@ wrote_more xs ys filled at end most more entry page page' l a b =
       omega (arith, a.1, b.1, ap length e),
       omega (arith, a.2, b.2, ap length e),
     )
-
--- one row
-pub wrote_row : (r : Row) (at : ℕ) (page page' : List ℕ) → length (row_bytes r) ≡ 19 → page' ≡ put_at at (row_bytes r) page → Wrote (r ∷ []) at (at + 19) 19 page page'
-wrote_row r at page page' l e =
-    let n = append-nil (row_bytes r) in
-    (e ∙ ap (λ (zs : List ℕ). put_at at zs page) (sym n), omega (arith, ap length n), omega (arith, ap length n))
 
 pub rows_some : (grade : ℕ → ℕ → Option ℕ) (a n g : ℕ) → grade a n ≡ Some g → rows_up_to grade a (n + 1) ≡ rows_up_to grade a n ++ record { sub = a; sup = n; code = g } ∷ []
 rows_some grade a n g e = rw add-one (ap (λ (o : Option ℕ). rows_up_to grade a n ++ row_of a n o) e)

@@ -1,6 +1,6 @@
-//! The bytes of a listing: a line for each row, in six columns a number.
-ghost use Rattle.std.specs.Prelude.{◌≡◌, ◌+◌, ◌≤◌, length};
-ghost use Rattle.listing.specs.Pages.{three_columns, row_bytes, put_at};
+//! The bytes of a listing: a line for each row, in six columns a number, and the page that they fill from the front.
+ghost use Rattle.std.specs.Prelude.{◌≡◌, ◌+◌, ◌≤◌, [], ◌∷◌, length};
+ghost use Rattle.listing.specs.Pages.{three_columns};
 
 use sheet::columns::columns;
 
@@ -12,31 +12,52 @@ pub struct Row {
     pub code: u16,
 }
 
-/// Writes bytes into the page from a place on.
-fn put(page: &mut [u8], at: usize, bytes: &[u8])
-    requires { at + length bytes.now ≤ length page.old }
-    ensures { page.new ≡ put_at at bytes.now page.old }
-{
-    page[at..at + bytes.len()].copy_from_slice(bytes);
+/// A page, of which the first `filled` bytes are written.
+#[derive(Drop)]
+pub(crate) struct Page<'p> {
+    bytes: &'p mut [u8],
+    filled: usize,
+    ghost within: { filled ≤ length bytes.now },
 }
 
-/// Writes three numbers, in six columns each, and a line feed into the page from a place on.
-pub(crate) fn put_line(page: &mut [u8], at: usize, first: u16, second: u16, third: u16)
-    requires { at + 19 ≤ length page.old }
-    ensures page { page.new ≡ put_at at (three_columns first second third) page.old }
-    ensures length { length (three_columns first second third) ≡ 19 }
+/// Three numbers, in six columns each, and a line feed.
+pub(crate) fn line(first: u16, second: u16, third: u16) -> [u8; 19]
+    ensures { result ≡ three_columns first second third }
 {
-    put(page, at, &columns(first));
-    put(page, at + 6, &columns(second));
-    put(page, at + 12, &columns(third));
-    put(page, at + 18, b"\n");
+    let columns = [columns(first), columns(second), columns(third)];
+    let mut bytes = [b' '; 19];
+    bytes[..18].copy_from_slice(columns.as_flattened());
+    bytes[18] = b'\n';
+    bytes
 }
 
-/// Writes the line of a row into the page from a place on.
-pub(crate) fn put_row(page: &mut [u8], at: usize, row: Row)
-    requires { at + 19 ≤ length page.old }
-    ensures page { page.new ≡ put_at at (row_bytes row) page.old }
-    ensures length { length (row_bytes row) ≡ 19 }
-{
-    put_line(page, at, row.sub, row.sup, row.code);
+impl<'p> Page<'p> {
+    ghost use Rattle.listing.specs.Pages.{Wrote};
+
+    /// A page of which nothing is written.
+    pub(crate) fn new(bytes: &'p mut [u8]) -> Self
+        ensures bytes { result.bytes.now ≡ bytes.old }
+        ensures filled { result.filled ≡ 0 }
+        ensures lent { result.bytes.ghost_name ≡ bytes.entry.ghost_name }
+    {
+        Page { bytes, filled: 0 }
+    }
+
+    /// How many bytes are written.
+    pub(crate) fn filled(&self) -> usize
+        ensures { result ≡ self.now.filled }
+    {
+        self.filled
+    }
+
+    /// Writes the line of a row behind what is written.
+    pub(crate) fn push(&mut self, row: Row)
+        requires { self.old.filled + 19 ≤ length self.old.bytes.now }
+        ensures wrote { Wrote (row ∷ []) self.old.filled self.new.filled 19 self.old.bytes.now self.new.bytes.now }
+        ensures lent { self.new.bytes.ghost_name ≡ self.old.bytes.ghost_name }
+    {
+        let end = self.filled + 19;
+        self.bytes[self.filled..end].copy_from_slice(&line(row.sub, row.sup, row.code));
+        self.filled = end;
+    }
 }

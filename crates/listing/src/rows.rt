@@ -6,75 +6,66 @@ ghost use Rattle.board.specs.Questions.{Settled};
 ghost use Rattle.listing.specs.Pages.{Wrote};
 ghost use Rattle.listing.specs.Rows.{rows_up_to, all_rows, code_to_list};
 
-use crate::page::{Row, put_row};
+use crate::page::{Page, Row};
 use board::closed::ClosedBoard;
 use grades::kind::GradeKind;
 use terms::terms::Terms;
 
-/// The code to list for two concepts, if there is one: they are different named concepts, and the grade is not "none".
-fn listed<K: GradeKind>(board: &ClosedBoard<K>, terms: &Terms, a: u16, d: u16) -> Option<u16>
-    requires { Settled (terms_of terms.now) board.now.concepts board.now.roles (closed_of board.now) }
-    ensures { result ≡ code_to_list (terms_of terms.now) K.GradeKind.kind (closed_of board.now) a d }
-{
-    if a == d || !terms.is_named(a) || !terms.is_named(d) {
-        return None;
-    }
-    match board.under(terms, a, d) {
-        Ok(code) => {
-            if code == K::none() {
-                return None;
-            }
-            Some(code)
-        }
-        Err(_) => None,
-    }
+/// A board that can be asked about the terms.
+#[derive(Drop)]
+pub(crate) struct SettledBoard<'b, 'w, 't, 'l, K> {
+    board: &'b ClosedBoard<'w, K>,
+    terms: &'t Terms<'l>,
+    ghost settled: { Settled (terms_of terms.now) board.now.concepts board.now.roles (closed_of board.now) },
 }
 
-/// Writes the rows of the concept `a` behind the `filled` bytes of the page, and says how many are filled then.
-fn write_rows<K: GradeKind>(
-    board: &ClosedBoard<K>,
-    terms: &Terms,
-    a: u16,
-    concepts: u16,
-    page: &mut [u8],
-    filled: usize,
-) -> usize
-    requires settled { Settled (terms_of terms.now) board.now.concepts board.now.roles (closed_of board.now) }
-    requires room { filled + 19 * concepts ≤ length page.old }
-    ensures { Wrote (rows_up_to (code_to_list (terms_of terms.now) K.GradeKind.kind (closed_of board.now)) a concepts) filled result (19 * concepts) page.old page.new }
-{
-    let mut at = filled;
-    for d in 0..concepts {
-        if let Some(code) = listed(board, terms, a, d) {
-            put_row(
-                page,
-                at,
-                Row {
+impl<'b, 'w, 't, 'l, K: GradeKind> SettledBoard<'b, 'w, 't, 'l, K> {
+    /// The answers of a board about the terms.
+    pub(crate) fn new(board: &'b ClosedBoard<'w, K>, terms: &'t Terms<'l>) -> Self
+        requires { Settled (terms_of terms.now) board.now.concepts board.now.roles (closed_of board.now) }
+        ensures board { result.board.now ≡ board.now }
+        ensures terms { result.terms.now ≡ terms.now }
+    {
+        SettledBoard { board, terms }
+    }
+
+    /// The code to list for two concepts, if there is one: they are different named concepts, and the grade is not "none".
+    fn listed(&self, a: u16, d: u16) -> Option<u16>
+        ensures { result ≡ code_to_list (terms_of self.now.terms.now) K.GradeKind.kind (closed_of self.now.board.now) a d }
+    {
+        if a == d || !self.terms.is_named(a) || !self.terms.is_named(d) {
+            return None;
+        }
+        let code = self.board.under(self.terms, a, d).ok()?;
+        (code != K::none()).then_some(code)
+    }
+
+    /// Writes the rows of the concept `a` and those below `concepts`.
+    fn write_rows(&self, a: u16, concepts: u16, page: &mut Page)
+        requires { page.old.filled + 19 * concepts ≤ length page.old.bytes.now }
+        ensures wrote { Wrote (rows_up_to (code_to_list (terms_of self.now.terms.now) K.GradeKind.kind (closed_of self.now.board.now)) a concepts) page.old.filled page.new.filled (19 * concepts) page.old.bytes.now page.new.bytes.now }
+        ensures lent { page.new.bytes.ghost_name ≡ page.old.bytes.ghost_name }
+    {
+        for d in 0..concepts {
+            if let Some(code) = self.listed(a, d) {
+                page.push(Row {
                     sub: a,
                     sup: d,
                     code,
-                },
-            );
-            at += 19;
+                });
+            }
         }
     }
-    at
-}
 
-/// Writes the rows of all concepts to the front of the page, and says how many bytes they take.
-pub(crate) fn write_all<K: GradeKind>(
-    board: &ClosedBoard<K>,
-    terms: &Terms,
-    concepts: u16,
-    page: &mut [u8],
-) -> usize
-    requires settled { Settled (terms_of terms.now) board.now.concepts board.now.roles (closed_of board.now) }
-    requires room { 19 * concepts * concepts ≤ length page.old }
-    ensures { Wrote (all_rows (code_to_list (terms_of terms.now) K.GradeKind.kind (closed_of board.now)) concepts concepts) 0 result (19 * concepts * concepts) page.old page.new }
-{
-    let mut filled = 0;
-    for a in 0..concepts {
-        filled = write_rows(board, terms, a, concepts, page, filled);
+    /// Writes the rows of all concepts to the front of the page, and says how many bytes they take.
+    pub(crate) fn write_all(&self, concepts: u16, bytes: &mut [u8]) -> usize
+        requires { 19 * concepts * concepts ≤ length bytes.old }
+        ensures { Wrote (all_rows (code_to_list (terms_of self.now.terms.now) K.GradeKind.kind (closed_of self.now.board.now)) concepts concepts) 0 result (19 * concepts * concepts) bytes.old bytes.new }
+    {
+        let mut page = Page::new(bytes);
+        for a in 0..concepts {
+            self.write_rows(a, concepts, &mut page);
+        }
+        page.filled()
     }
-    filled
 }

@@ -7,7 +7,7 @@ ghost use Rattle.board.specs.Refusals.{InOrder};
 ghost use Rattle.board.specs.Questions.{Settled};
 ghost use Rattle.listing.specs.Stories.{ListedOr, Told};
 
-use crate::rows::write_all;
+use crate::rows::SettledBoard;
 use crate::trouble::Trouble;
 use board::board::OpenBoard;
 use board::checking::check;
@@ -53,7 +53,8 @@ fn list_terms<K: GradeKind>(terms: &Terms, page: &mut [u8], kind: K) -> Result<u
     let mut words = [0; 17640];
     check(terms, &words, &ring, kind)?;
     let board = classify(terms, &mut words, &mut ring, kind);
-    Ok(write_all(&board, terms, terms.concepts().len() as u16, page))
+    let settled = SettledBoard::new(&board, terms);
+    Ok(settled.write_all(terms.concepts().len() as u16, page))
 }
 
 /// Reads a text and writes the listing of its classification to the front of the page, and says how many bytes it takes.
@@ -76,11 +77,6 @@ pub fn list(text: &[u8], page: &mut [u8; PAGE]) -> Result<usize, Trouble>
         code: 0,
     }; 200];
     let mut terms = Terms::empty(&mut concepts, &mut inclusions);
-    if let Err(fault) = read(text, &mut terms) {
-        return Err(Trouble::Reading(fault));
-    }
-    match list_terms(&terms, page, Releases) {
-        Ok(length) => Ok(length),
-        Err(rejection) => Err(Trouble::Check(rejection)),
-    }
+    read(text, &mut terms)?;
+    Ok(list_terms(&terms, page, Releases)?)
 }

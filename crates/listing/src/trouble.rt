@@ -1,8 +1,9 @@
 //! Why a text has no listing, and the line that says so.
 ghost use Rattle.std.specs.Prelude.{◌≡◌, min};
+ghost use Rattle.listing.specs.declared.trouble.Trouble.TheVariants.{Reading, Check};
 ghost use Rattle.listing.specs.Troubles.{trouble_bytes};
 
-use crate::page::put_line;
+use crate::page::line;
 use rejections::Rejection;
 use sheet::fault::Fault;
 
@@ -15,11 +16,29 @@ pub enum Trouble {
     Check(Rejection),
 }
 
+/// A sheet's fault is a trouble in reading.
+impl From<Fault> for Trouble {
+    ghost from_gives = { λ x y. y ≡ Reading x };
+
+    fn from(fault: Fault) -> Trouble {
+        Trouble::Reading(fault)
+    }
+}
+
+/// A rejection is a trouble of the check before the board is made.
+impl From<Rejection> for Trouble {
+    ghost from_gives = { λ x y. y ≡ Check x };
+
+    fn from(rejection: Rejection) -> Trouble {
+        Trouble::Check(rejection)
+    }
+}
+
 /// A number of a line or a column, as far as 16 bits go.
 fn short(n: usize) -> u16
     ensures { result ≡ min n 65535 }
 {
-    n.min(65535) as u16
+    u16::try_from(n).unwrap_or(u16::MAX)
 }
 
 impl Trouble {
@@ -27,17 +46,16 @@ impl Trouble {
     pub fn line(self) -> [u8; 20]
         ensures { result ≡ trouble_bytes self }
     {
-        let mut bytes = [b'!'; 20];
-        match self {
-            Trouble::Reading(fault) => put_line(
-                &mut bytes,
-                1,
+        let line = match self {
+            Trouble::Reading(fault) => line(
                 fault.rejection.number(),
                 short(fault.line),
                 short(fault.column),
             ),
-            Trouble::Check(rejection) => put_line(&mut bytes, 1, rejection.number(), 0, 0),
-        }
+            Trouble::Check(rejection) => line(rejection.number(), 0, 0),
+        };
+        let mut bytes = [b'!'; 20];
+        bytes[1..].copy_from_slice(&line);
         bytes
     }
 }

@@ -1,4 +1,5 @@
-use Rattle.std.proofs.Common.{◌≡◌, length, Err, sym, refl, ap, ◌∙◌, subst, ap₂, arith, length-take}
+use Rattle.std.proofs.Common.{◌≡◌, length, Err, sym, refl, ap, ◌∙◌, subst, ap₂}
+use Rattle.std.proofs.lemmas.Result.{err_from_is_err_and}
 use Rattle.terms.specs.declared.tally.Room.{Room}
 use Rattle.terms.specs.Counting.{room_for}
 use Rattle.terms.specs.Lent.{room_of}
@@ -8,26 +9,22 @@ use Rattle.sheet.specs.Written.{ReadAs}
 use Rattle.listing.specs.Stories.{lists, Told}
 use Rattle.listing.proofs.text.list.Goals as goal
 
-pub returns-then-text-gt4000 : goal.returns-then-text-gt4000
-returns-then-text-gt4000 c = record { told = Told.too_long refl c.if-text-gt4000.true; fits = tt }
+pub returns-then-text-gt4000-clause-told : goal.returns-then-text-gt4000-clause-told
+returns-then-text-gt4000-clause-told c = Told.too_long refl c.if-text-gt4000.true
 
-pub returns-in-Err : goal.returns-in-Err
-returns-in-Err c =
+pub returns-in_err-read-clause-told : goal.returns-in_err-read-clause-told
+returns-in_err-read-clause-told c =
+    let p = err_from_is_err_and c.from_residual.result c.from_residual.ensures.1 in
     let room : room_of c.empty-terms.result ≡ lists = ap₂ room_for (ap length c.empty-terms.ensures.concepts.0) (ap length c.empty-terms.ensures.inclusions.0) in
-    record { told = Told.no_sheet refl c.if-text-gt4000.false (subst (λ (m : Room). sheet_of m c.args.text.now ≡ Err c.in-Err.fault) room (sym c.read.ensures.result ∙ c.in-Err.is)); fits = tt }
+    rw (p.1, p.2) (Told.no_sheet refl c.if-text-gt4000.false (subst (λ (m : Room). sheet_of m c.args.text.now ≡ Err c.in_err-read.field-0.0) room (sym c.read.ensures.result ∙ c.in_err-read.was)))
 
-pub list_terms-requires : goal.list_terms-requires
-list_terms-requires c =
-    let t = c.read.new.terms in
-    let long : length t.concepts.list.now ≡ 40 = c.in_default.ensures.terms.1.long_concepts ∙ ap length c.empty-terms.ensures.concepts.0 in
-    record { few = omega (arith, length-take t.concepts.count t.concepts.list.now); room = omega (arith, c.told-page) }
-
-pub returns-in-Ok : goal.returns-in-Ok
-returns-in-Ok c =
+pub returns-in_err-list_terms-clause-told : goal.returns-in_err-list_terms-clause-told
+returns-in_err-list_terms-clause-told c =
+    let p = err_from_is_err_and c.from_residual-in_err-list_terms.result c.from_residual-in_err-list_terms.ensures.1 in
     let room : room_of c.empty-terms.result ≡ lists = ap₂ room_for (ap length c.empty-terms.ensures.concepts.0) (ap length c.empty-terms.ensures.inclusions.0) in
-    record { told = Told.listed c.if-text-gt4000.false (subst (λ (m : Room). ReadAs m c.args.text.now c.in_default.field-0 (terms_of c.read.new.terms)) room c.in_default.ensures.law) c.in-Ok.ensures.listed; fits = c.in-Ok.ensures.fits }
+    rw (p.1, p.2) (Told.no_board c.if-text-gt4000.false (subst (λ (m : Room). ReadAs m c.args.text.now c.in_ok-read.field-0 (terms_of c.read.new.terms)) room c.in_ok-read.ensures.law) c.in_err-list_terms.ensures.listed)
 
-pub returns-in-Err-list_terms : goal.returns-in-Err-list_terms
-returns-in-Err-list_terms c =
+pub returns-clause-told : goal.returns-clause-told
+returns-clause-told c =
     let room : room_of c.empty-terms.result ≡ lists = ap₂ room_for (ap length c.empty-terms.ensures.concepts.0) (ap length c.empty-terms.ensures.inclusions.0) in
-    record { told = Told.no_board c.if-text-gt4000.false (subst (λ (m : Room). ReadAs m c.args.text.now c.in_default.field-0 (terms_of c.read.new.terms)) room c.in_default.ensures.law) c.in-Err-list_terms.ensures.listed; fits = tt }
+    Told.listed c.if-text-gt4000.false (subst (λ (m : Room). ReadAs m c.args.text.now c.in_ok-read.field-0 (terms_of c.read.new.terms)) room c.in_ok-read.ensures.law) c.in_ok-list_terms.ensures.listed

@@ -18,11 +18,7 @@ returns-in_err-check g c =
     })
 
 pub write_all-requires : goal.write_all-requires
-write_all-requires g c =
-    record {
-      settled = c.classify-board.ensures.settled;
-      room = page_room (length c.concepts.result.now) c.args.page.now (omega (arith, ap length c.concepts.ensures, c.requires.few)) c.requires.room;
-    }
+write_all-requires g c = page_room (length c.concepts.result.now) c.args.page.now (omega (arith, ap length c.concepts.ensures, c.requires.few)) c.requires.room
 
 pub returns : goal.returns
 returns g c =
@@ -34,8 +30,9 @@ returns g c =
     let h = c.classify-board.ensures.history in
     let small : n ≤ 40 = omega (arith, ap length c.concepts.ensures, c.requires.few) in
     let few = page_few n small in
+    let w = rw (c.new-settled.ensures.board, c.new-settled.ensures.terms) at c.write_all.ensures in
     record {
-      listed = board_listed v k 17640 _ c.write_all.result (all_rows (code_to_list v k b) n n) c.args.page.now c.write_all.new.page refl order.coded order.enough
-          (truly_listed k g.met.K.GradeKind.lawful v (well_formed c.args.terms.now) b h.1 h.0 h.2 c.classify-board.ensures.settled.1 n (ap length c.concepts.ensures)) c.write_all.ensures;
-      fits = omega (arith, c.write_all.ensures.1, c.write_all.ensures.2);
+      listed = board_listed v k 17640 _ c.write_all.result (all_rows (code_to_list v k b) n n) c.args.page.now c.write_all.new.bytes refl order.coded order.enough
+          (truly_listed k g.met.K.GradeKind.lawful v (well_formed c.args.terms.now) b h.1 h.0 h.2 c.classify-board.ensures.settled.1 n (ap length c.concepts.ensures)) w;
+      fits = omega (arith, w.1, w.2);
     }
