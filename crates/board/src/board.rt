@@ -30,7 +30,7 @@ pub struct Board<'a, K, S> {
     pub(crate) concepts: usize,
     pub(crate) roles: usize,
     steps: u64,
-    kind: K,
+    pub(crate) kind: K,
     stage: PhantomData<S>,
     ghost few: { (concepts ≤ 1024) × (roles ≤ 32) },
     ghost fits: { room concepts roles ≤ length words.now },
