@@ -13,7 +13,7 @@ use terms::terms::Terms;
 
 /// The code to list for two concepts, if there is one: they are different named concepts, and the grade is not "none".
 fn listed<K: GradeKind>(board: &ClosedBoard<K>, terms: &Terms, a: u16, d: u16) -> Option<u16>
-    requires { Settled (terms_of terms.now) board.now.concepts board.now.roles (closed_of board.now) }
+    requires { Settled (terms_of terms.now) board.now.counts.concepts board.now.counts.roles (closed_of board.now) }
     ensures { result ≡ code_to_list (terms_of terms.now) K.GradeKind.kind (closed_of board.now) a d }
 {
     if a == d || !terms.is_named(a) || !terms.is_named(d) {
@@ -39,7 +39,7 @@ fn write_rows<K: GradeKind>(
     page: &mut [u8],
     filled: usize,
 ) -> usize
-    requires settled { Settled (terms_of terms.now) board.now.concepts board.now.roles (closed_of board.now) }
+    requires settled { Settled (terms_of terms.now) board.now.counts.concepts board.now.counts.roles (closed_of board.now) }
     requires room { filled + 19 * concepts ≤ length page.old }
     ensures { Wrote (rows_up_to (code_to_list (terms_of terms.now) K.GradeKind.kind (closed_of board.now)) a concepts) filled result (19 * concepts) page.old page.new }
 {
@@ -68,7 +68,7 @@ pub(crate) fn write_all<K: GradeKind>(
     concepts: u16,
     page: &mut [u8],
 ) -> usize
-    requires settled { Settled (terms_of terms.now) board.now.concepts board.now.roles (closed_of board.now) }
+    requires settled { Settled (terms_of terms.now) board.now.counts.concepts board.now.counts.roles (closed_of board.now) }
     requires room { 19 * concepts * concepts ≤ length page.old }
     ensures { Wrote (all_rows (code_to_list (terms_of terms.now) K.GradeKind.kind (closed_of board.now)) concepts concepts) 0 result (19 * concepts * concepts) page.old page.new }
 {

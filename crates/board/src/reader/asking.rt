@@ -29,7 +29,7 @@ pub(crate) struct Place {
 impl<'b> Reader<'b> {
     /// Whether `c` is found under `d` at the point.
     fn lies_under<K: GradeKind>(&self, point: u8, c: u16, d: u16) -> bool
-        requires { (c < self.now.concepts) × (d < self.now.concepts) }
+        requires { (c < self.now.counts.concepts) × (d < self.now.counts.concepts) }
         ensures { result ≡ K.GradeKind.kind.holds ((read_of self.now).found (under c d)) point }
     {
         K::holds(self.found(Fact::Under(c, d)), point)
@@ -37,7 +37,7 @@ impl<'b> Reader<'b> {
 
     /// Whether `b` is a mate of the concept.
     fn is_mate<K: GradeKind>(&self, terms: &Terms, at: Place, b: u16) -> bool
-        requires { (at.concept < self.now.concepts) × (b < self.now.concepts) }
+        requires { (at.concept < self.now.counts.concepts) × (b < self.now.counts.concepts) }
         ensures { result ≡ mate_test (terms_of terms.now) K.GradeKind.kind (read_of self.now) at.point at.concept b }
     {
         terms.is_named(b)
@@ -48,7 +48,7 @@ impl<'b> Reader<'b> {
 
     /// Whether `c` lies strictly between the concept and `b`.
     fn is_between<K: GradeKind>(&self, terms: &Terms, at: Place, b: u16, c: u16) -> bool
-        requires { (at.concept < self.now.concepts) × (b < self.now.concepts) × (c < self.now.concepts) }
+        requires { (at.concept < self.now.counts.concepts) × (b < self.now.counts.concepts) × (c < self.now.counts.concepts) }
         ensures { result ≡ between_test (terms_of terms.now) K.GradeKind.kind (read_of self.now) at.point at.concept b c }
     {
         terms.is_named(c)
@@ -60,7 +60,7 @@ impl<'b> Reader<'b> {
 
     /// Whether no mate of the concept has a lower number.
     fn is_lowest<K: GradeKind>(&self, terms: &Terms, at: Place) -> bool
-        requires { at.concept < self.now.concepts }
+        requires { at.concept < self.now.counts.concepts }
         ensures { result ≡ lowest_test (terms_of terms.now) K.GradeKind.kind (read_of self.now) at.point at.concept }
     {
         for c in 0..at.concept {
@@ -73,10 +73,10 @@ impl<'b> Reader<'b> {
 
     /// Whether no concept lies strictly between the concept and `b`.
     fn nothing_between<K: GradeKind>(&self, terms: &Terms, at: Place, b: u16) -> bool
-        requires { (at.concept < self.now.concepts) × (b < self.now.concepts) }
-        ensures { result ≡ nothing_between_test self.now.concepts (terms_of terms.now) K.GradeKind.kind (read_of self.now) at.point at.concept b }
+        requires { (at.concept < self.now.counts.concepts) × (b < self.now.counts.concepts) }
+        ensures { result ≡ nothing_between_test self.now.counts.concepts (terms_of terms.now) K.GradeKind.kind (read_of self.now) at.point at.concept b }
     {
-        for c in 0..self.concepts {
+        for c in 0..self.counts.concepts {
             if self.is_between::<K>(terms, at, b, c as u16) {
                 return false;
             }
@@ -86,8 +86,8 @@ impl<'b> Reader<'b> {
 
     /// Whether `b` is a parent of the concept.
     fn is_parent<K: GradeKind>(&self, terms: &Terms, at: Place, b: u16) -> bool
-        requires { (at.concept < self.now.concepts) × (b < self.now.concepts) }
-        ensures { result ≡ parent_test self.now.concepts (terms_of terms.now) K.GradeKind.kind (read_of self.now) at.point at.concept b }
+        requires { (at.concept < self.now.counts.concepts) × (b < self.now.counts.concepts) }
+        ensures { result ≡ parent_test self.now.counts.concepts (terms_of terms.now) K.GradeKind.kind (read_of self.now) at.point at.concept b }
     {
         terms.is_named(b)
             && self.lies_under::<K>(at.point, at.concept, b)
@@ -104,8 +104,8 @@ impl<'b> Reader<'b> {
 
     /// Whether `b` belongs to the answer.
     fn is_wanted<K: GradeKind>(&self, terms: &Terms, question: Question, at: Place, b: u16) -> bool
-        requires { (at.concept < self.now.concepts) × (b < self.now.concepts) }
-        ensures { result ≡ wanted_test question self.now.concepts (terms_of terms.now) K.GradeKind.kind (read_of self.now) at.point at.concept b }
+        requires { (at.concept < self.now.counts.concepts) × (b < self.now.counts.concepts) }
+        ensures { result ≡ wanted_test question self.now.counts.concepts (terms_of terms.now) K.GradeKind.kind (read_of self.now) at.point at.concept b }
     {
         match question {
             Question::Mates => self.is_mate::<K>(terms, at, b),
@@ -120,11 +120,11 @@ impl<'b> Reader<'b> {
         question: Question,
         at: Place,
     ) -> usize
-        requires { at.concept < self.now.concepts }
-        ensures { result ≡ length (picked (wanted_test question self.now.concepts (terms_of terms.now) K.GradeKind.kind (read_of self.now) at.point at.concept) self.now.concepts) }
+        requires { at.concept < self.now.counts.concepts }
+        ensures { result ≡ length (picked (wanted_test question self.now.counts.concepts (terms_of terms.now) K.GradeKind.kind (read_of self.now) at.point at.concept) self.now.counts.concepts) }
     {
         let mut count = 0;
-        for b in 0..self.concepts {
+        for b in 0..self.counts.concepts {
             if self.is_wanted::<K>(terms, question, at, b as u16) {
                 count += 1;
             }
@@ -140,12 +140,12 @@ impl<'b> Reader<'b> {
         at: Place,
         list: &mut [u16],
     )
-        requires within { at.concept < self.now.concepts }
-        requires room { length (picked (wanted_test question self.now.concepts (terms_of terms.now) K.GradeKind.kind (read_of self.now) at.point at.concept) self.now.concepts) ≤ length list.old }
-        ensures { list.new ≡ picked (wanted_test question self.now.concepts (terms_of terms.now) K.GradeKind.kind (read_of self.now) at.point at.concept) self.now.concepts ++ drop (length (picked (wanted_test question self.now.concepts (terms_of terms.now) K.GradeKind.kind (read_of self.now) at.point at.concept) self.now.concepts)) list.old }
+        requires within { at.concept < self.now.counts.concepts }
+        requires room { length (picked (wanted_test question self.now.counts.concepts (terms_of terms.now) K.GradeKind.kind (read_of self.now) at.point at.concept) self.now.counts.concepts) ≤ length list.old }
+        ensures { list.new ≡ picked (wanted_test question self.now.counts.concepts (terms_of terms.now) K.GradeKind.kind (read_of self.now) at.point at.concept) self.now.counts.concepts ++ drop (length (picked (wanted_test question self.now.counts.concepts (terms_of terms.now) K.GradeKind.kind (read_of self.now) at.point at.concept) self.now.counts.concepts)) list.old }
     {
         let mut filled = 0;
-        for b in 0..self.concepts {
+        for b in 0..self.counts.concepts {
             if self.is_wanted::<K>(terms, question, at, b as u16) {
                 list[filled] = b as u16;
                 filled += 1;

@@ -40,7 +40,7 @@ impl Line {
 impl<'b> Reader<'b> {
     /// Whether the job waits.
     fn waits(&self, job: Job) -> bool
-        requires { Fits self.now.concepts self.now.roles (fact_of job) }
+        requires { Fits self.now.counts.concepts self.now.counts.roles (fact_of job) }
         ensures waits { result ≡ true → Waits (read_of self.now) job }
         ensures rests { result ≡ false → Rests (read_of self.now) job }
     {
@@ -49,8 +49,8 @@ impl<'b> Reader<'b> {
 
     /// The number of the first job of a line that waits, of those below `end`.
     fn first_in(&self, line: Line, end: u16) -> Option<u16>
-        requires lies { Lies self.now.concepts self.now.roles line }
-        requires end { end ≤ self.now.concepts }
+        requires lies { Lies self.now.counts.concepts self.now.counts.roles line }
+        requires end { end ≤ self.now.counts.concepts }
         ensures { MatchOption result (NoneBelow (read_of self.now) line end) (FirstBelow (read_of self.now) line end) }
     {
         for i in 0..end {
@@ -83,7 +83,7 @@ impl<'b> Reader<'b> {
         }
         let end = match best {
             Some((left, _)) => left,
-            None => self.concepts as u16,
+            None => self.counts.concepts as u16,
         };
         match self.first_in(Line::Links(x), end) {
             Some(left) => Some((left, x)),
@@ -97,7 +97,7 @@ impl<'b> Reader<'b> {
         ensures { BestLink (terms_of terms.now) (read_of self.now) c (length (terms_of terms.now).concepts) result }
     {
         let mut best = None;
-        for x in 0..self.concepts {
+        for x in 0..self.counts.concepts {
             best = self.better_link(terms, c, x as u16, best);
         }
         best
@@ -109,8 +109,11 @@ impl<'b> Reader<'b> {
         requires left { c < length (terms_of terms.now).concepts }
         ensures { MatchOption result (NoImplications (terms_of terms.now) (read_of self.now) c (terms_of terms.now).roles) (λ t. FirstImplication (terms_of terms.now) (read_of self.now) c t.0 t.1) }
     {
-        for s in 0..self.roles {
-            if let Some(e) = self.first_in(Line::Implications(s as u16, c), self.concepts as u16) {
+        for s in 0..self.counts.roles {
+            if let Some(e) = self.first_in(
+                Line::Implications(s as u16, c),
+                self.counts.concepts as u16,
+            ) {
                 return Some((s as u16, e));
             }
         }
@@ -123,7 +126,7 @@ impl<'b> Reader<'b> {
         requires left { c < length (terms_of terms.now).concepts }
         ensures { MatchOption result (QuietAt (terms_of terms.now) (read_of self.now) c) (First (terms_of terms.now) (read_of self.now) c) }
     {
-        if let Some(d) = self.first_in(Line::Owns(c), self.concepts as u16) {
+        if let Some(d) = self.first_in(Line::Owns(c), self.counts.concepts as u16) {
             return Some(Job::Own(c, d));
         }
         if let Some((a, x)) = self.first_link(terms, c) {
@@ -141,7 +144,7 @@ impl<'b> Reader<'b> {
         ensures waits { result ≡ true → Quiet (terms_of terms.now) (read_of self.now) → ⊥ }
         ensures quiet { result ≡ false → QuietWhere (terms_of terms.now) (read_of self.now) idle (length (terms_of terms.now).concepts) }
     {
-        for c in 0..self.concepts {
+        for c in 0..self.counts.concepts {
             if self.is_idle(c) == idle {
                 if let Some(_) = self.first(terms, c as u16) {
                     return true;

@@ -8,26 +8,26 @@ use Rattle.board.proofs.reader.Reader.write_wanted.Goals.{then-is_wanted, else-i
 
 pub offset_bounds-list-filled : goal.offset_bounds-list-filled
 offset_bounds-list-filled g c =
-    let f : ℕ → Bool = wanted_test c.args.question c.args.self.now.concepts (terms_of c.args.terms.now) g.K.GradeKind.kind (read_of c.args.self.now) c.args.at.point c.args.at.concept in
+    let f : ℕ → Bool = wanted_test c.args.question c.args.self.now.counts.concepts (terms_of c.args.terms.now) g.K.GradeKind.kind (read_of c.args.self.now) c.args.at.point c.args.at.concept in
     omega (arith, picked_short f c.loop-b.b)
 
 pub bounds-list-filled : goal.bounds-list-filled
 bounds-list-filled g c =
-    let f : ℕ → Bool = wanted_test c.args.question c.args.self.now.concepts (terms_of c.args.terms.now) g.K.GradeKind.kind (read_of c.args.self.now) c.args.at.point c.args.at.concept in
-    let room = room_for_one f c.loop-b.b c.args.self.now.concepts c.loop-b-test.true (sym c.if-is_wanted.ensures) in
+    let f : ℕ → Bool = wanted_test c.args.question c.args.self.now.counts.concepts (terms_of c.args.terms.now) g.K.GradeKind.kind (read_of c.args.self.now) c.args.at.point c.args.at.concept in
+    let room = room_for_one f c.loop-b.b c.args.self.now.counts.concepts c.loop-b-test.true (sym c.if-is_wanted.ensures) in
     omega (arith, c.requires.room, c.loop-b.auto.list)
 
 pub overflow_add-filled : goal.overflow_add-filled
 overflow_add-filled g c =
-    let f : ℕ → Bool = wanted_test c.args.question c.args.self.now.concepts (terms_of c.args.terms.now) g.K.GradeKind.kind (read_of c.args.self.now) c.args.at.point c.args.at.concept in
+    let f : ℕ → Bool = wanted_test c.args.question c.args.self.now.counts.concepts (terms_of c.args.terms.now) g.K.GradeKind.kind (read_of c.args.self.now) c.args.at.point c.args.at.concept in
     omega (arith, picked_short f c.loop-b.b)
 
 pub loop-b-preserved : goal.loop-b-preserved
 loop-b-preserved g c =
-    let f : ℕ → Bool = wanted_test c.args.question c.args.self.now.concepts (terms_of c.args.terms.now) g.K.GradeKind.kind (read_of c.args.self.now) c.args.at.point c.args.at.concept in
+    let f : ℕ → Bool = wanted_test c.args.question c.args.self.now.counts.concepts (terms_of c.args.terms.now) g.K.GradeKind.kind (read_of c.args.self.now) c.args.at.point c.args.at.concept in
     elim c.if-is_wanted.branch [
       | then-is_wanted w ↦
-          written_more f c.loop-b.b c.args.self.now.concepts c.loop-b.filled c.if-is_wanted.filled c.loop-b.list c.if-is_wanted.list c.args.list.now
+          written_more f c.loop-b.b c.args.self.now.counts.concepts c.loop-b.filled c.if-is_wanted.filled c.loop-b.list c.if-is_wanted.list c.args.list.now
           c.loop-b.invariant c.loop-b-test.true c.requires.room (sym w.if-is_wanted.ensures) w.list-is w.filled-is
       | else-is_wanted w ↦
           written_none f c.loop-b.b c.loop-b.filled c.if-is_wanted.filled c.loop-b.list c.if-is_wanted.list c.args.list.now

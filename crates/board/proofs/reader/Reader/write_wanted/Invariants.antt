@@ -6,5 +6,5 @@ use Rattle.board.proofs.reader.Reader.write_wanted.Given as goal
 
 abbrev pub invariant-loop-b : goal.invariant-loop-b
 invariant-loop-b g l =
-    (l.filled ≡ length (picked (wanted_test l.question l.self.concepts (terms_of l.terms) g.K.GradeKind.kind (read_of l.self) l.at.point l.at.concept) l.b))
-    × (l.list ≡ picked (wanted_test l.question l.self.concepts (terms_of l.terms) g.K.GradeKind.kind (read_of l.self) l.at.point l.at.concept) l.b ++ drop l.filled l.initial.list)
+    (l.filled ≡ length (picked (wanted_test l.question l.self.counts.concepts (terms_of l.terms) g.K.GradeKind.kind (read_of l.self) l.at.point l.at.concept) l.b))
+    × (l.list ≡ picked (wanted_test l.question l.self.counts.concepts (terms_of l.terms) g.K.GradeKind.kind (read_of l.self) l.at.point l.at.concept) l.b ++ drop l.filled l.initial.list)

@@ -45,8 +45,8 @@ returns-then-count-list g c =
     let b = closed_of c.args.self.now in
     let r = c.reader-reader.result in
     let n = c.reader-reader.ensures.concepts in
-    let xs : List ℕ = picked (wanted_test c.args.question r.concepts v k (read_of r) c.args.at.point c.args.at.concept) r.concepts in
-    let is : ListOf (Wanted c.args.question v (FoundUnder k b c.args.at.point) c.args.at.concept) xs = asked_list c.args.question v k (read_of r) b c.args.at.point c.args.at.concept r.concepts c.reader-reader.ensures.view (n ∙ s.0.0) in
+    let xs : List ℕ = picked (wanted_test c.args.question r.counts.concepts v k (read_of r) c.args.at.point c.args.at.concept) r.counts.concepts in
+    let is : ListOf (Wanted c.args.question v (FoundUnder k b c.args.at.point) c.args.at.concept) xs = asked_list c.args.question v k (read_of r) b c.args.at.point c.args.at.concept r.counts.concepts c.reader-reader.ensures.view (n ∙ s.0.0) in
     let point : c.args.at.point < k.points = subst (λ (m : ℕ). c.args.at.point < m) c.points.ensures c.if-at-points.false in
     record { answer = short_list refl s i point xs is (subst (λ (m : ℕ). length c.args.list.now < m) c.count_wanted-count.ensures c.if-count-list.true); truth = tt }
 
@@ -66,8 +66,8 @@ returns g c =
     let b = closed_of c.args.self.now in
     let r = c.reader-reader.result in
     let n = c.reader-reader.ensures.concepts in
-    let xs : List ℕ = picked (wanted_test c.args.question r.concepts v k (read_of r) c.args.at.point c.args.at.concept) r.concepts in
-    let is : ListOf (Wanted c.args.question v (FoundUnder k b c.args.at.point) c.args.at.concept) xs = asked_list c.args.question v k (read_of r) b c.args.at.point c.args.at.concept r.concepts c.reader-reader.ensures.view (n ∙ s.0.0) in
+    let xs : List ℕ = picked (wanted_test c.args.question r.counts.concepts v k (read_of r) c.args.at.point c.args.at.concept) r.counts.concepts in
+    let is : ListOf (Wanted c.args.question v (FoundUnder k b c.args.at.point) c.args.at.concept) xs = asked_list c.args.question v k (read_of r) b c.args.at.point c.args.at.concept r.counts.concepts c.reader-reader.ensures.view (n ∙ s.0.0) in
     let point : c.args.at.point < k.points = subst (λ (m : ℕ). c.args.at.point < m) c.points.ensures c.if-at-points.false in
     let few : length xs ≤ length c.args.list.now = subst (λ (m : ℕ). m ≤ length c.args.list.now) c.count_wanted-count.ensures c.if-count-list.false in
     let count : c.count_wanted-count.result ≡ length xs = c.count_wanted-count.ensures in
