@@ -30,10 +30,10 @@ use Rattle.board.proofs.AsStated.{as_stated, still_sane}
 
 module _ {X Y : Type 0} (v : Vocabulary) (k : Kind) (L : Lawful k) (numbers : Y → Numbers) (c : ℕ) (a : OpenBoard X) (p : Y) (R : Ready v numbers a p) where
   -- a board's sanity, by its own counts and by the vocabulary's
-  inward : (b : OpenBoard X) → Sane a.concepts a.roles k (board_of b) → Sane (length v.concepts) v.roles k (board_of b)
+  inward : (b : OpenBoard X) → Sane a.counts.concepts a.counts.roles k (board_of b) → Sane (length v.concepts) v.roles k (board_of b)
   inward b = subst₂ (λ n m. Sane n m k (board_of b)) R.concepts R.roles
 
-  outward : (b : OpenBoard X) → Sane (length v.concepts) v.roles k (board_of b) → Sane a.concepts a.roles k (board_of b)
+  outward : (b : OpenBoard X) → Sane (length v.concepts) v.roles k (board_of b) → Sane a.counts.concepts a.counts.roles k (board_of b)
   outward b = subst₂ (λ n m. Sane n m k (board_of b)) (sym R.concepts) (sym R.roles)
 
   pub ongoing_none : (board_of a).state c ≡ Held → Ongoing v k numbers c 0 a p a p
@@ -106,7 +106,7 @@ rechecks v n m size c (RecheckRejected.unfit_lease _ _ no-lease) s l h = omega a
 
 module _ {X Y : Type 0} (v : Vocabulary) (k : Kind) (numbers : Y → Numbers) (c budget steps : ℕ) (a : OpenBoard X) (p : Y) (b : OpenBoard X) (q : Y) (R : Ready v numbers a p)
     (E : Exhausted v k numbers c budget steps a p b q) (d : OpenBoard X) (F : Framed b d)
-    (L : (pile : ℕ → Bool) → Lowered b.concepts b.roles c (record { board = board_of b; pile = pile }) (record { board = board_of d; pile = pile })) where
+    (L : (pile : ℕ → Bool) → Lowered b.counts.concepts b.counts.roles c (record { board = board_of b; pile = pile }) (record { board = board_of d; pile = pile })) where
   was_lowered : Lowered (length v.concepts) v.roles c (moment_of numbers b q) (moment_of numbers d q)
   was_lowered = subst₂ (λ n m. Lowered n m c (moment_of numbers b q) (moment_of numbers d q)) (E.kept.frame.concepts ∙ R.concepts) (E.kept.frame.roles ∙ R.roles) (L (numbers q).holds)
 
@@ -138,7 +138,7 @@ module _ {X Y : Type 0} (v : Vocabulary) (k : Kind) (numbers : Y → Numbers) (b
 
   module _ (R : Ready v numbers a p) (steps : ℕ) (b : OpenBoard X) (q : Y) (O : Rolling v k numbers budget steps a p b q) where
     -- a take, and a turn of so many further steps
-    pub rolling_more : (Quiet v (board_of b) → ⊥) → steps < budget → (c : ℕ) (d : OpenBoard X) (r : Y) → Kept numbers b q d r → StaysSane k b d → Took b.concepts b.roles c (moment_of numbers b q) (moment_of numbers d r) →
+    pub rolling_more : (Quiet v (board_of b) → ⊥) → steps < budget → (c : ℕ) (d : OpenBoard X) (r : Y) → Kept numbers b q d r → StaysSane k b d → Took b.counts.concepts b.counts.roles c (moment_of numbers b q) (moment_of numbers d r) →
         (more : ℕ) (f : OpenBoard X) (t : Y) → Turned v k numbers c (budget - steps) more d r f t → Rolling v k numbers budget (steps + more) a p f t
     rolling_more W l c d r K S T more f t U = record {
       kept = kept_then O.kept (kept_then K U.kept);
@@ -156,26 +156,26 @@ module _ {X Y : Type 0} (v : Vocabulary) (k : Kind) (numbers : Y → Numbers) (b
     }
 
     finish : (o : Outcome) (d : OpenBoard X) (r : Y) (fs : List Event) → Runs v k (budget - steps) o 0 fs (moment_of numbers b q) (moment_of numbers d r) →
-        Sane a.concepts a.roles k (board_of a) → (es : List Event) × Runs v k budget o steps es (moment_of numbers a p) (moment_of numbers d r)
+        Sane a.counts.concepts a.counts.roles k (board_of a) → (es : List Event) × Runs v k budget o steps es (moment_of numbers a p) (moment_of numbers d r)
     finish o d r fs T S =
         let H = O.turning S o 0 fs (moment_of numbers d r) T in
         (H.0, subst (λ y. Runs v k budget o y H.0 (moment_of numbers a p) (moment_of numbers d r)) (omega arith) H.1)
 
-    pub rolling_finished : Quiet v (board_of b) → Sane a.concepts a.roles k (board_of a) → (es : List Event) × Runs v k budget Finished steps es (moment_of numbers a p) (moment_of numbers b q)
+    pub rolling_finished : Quiet v (board_of b) → Sane a.counts.concepts a.counts.roles k (board_of a) → (es : List Event) × Runs v k budget Finished steps es (moment_of numbers a p) (moment_of numbers b q)
     rolling_finished Q = finish Finished b q [] (Runs.finished Q)
 
-    pub rolling_spent : (Quiet v (board_of b) → ⊥) → steps ≡ budget → Sane a.concepts a.roles k (board_of a) → (es : List Event) × Runs v k budget Spent steps es (moment_of numbers a p) (moment_of numbers b q)
+    pub rolling_spent : (Quiet v (board_of b) → ⊥) → steps ≡ budget → Sane a.counts.concepts a.counts.roles k (board_of a) → (es : List Event) × Runs v k budget Spent steps es (moment_of numbers a p) (moment_of numbers b q)
     rolling_spent W e =
         finish Spent b q [] (subst (λ x. Runs v k x Spent 0 [] (moment_of numbers b q) (moment_of numbers b q)) (omega arith) (Runs.spent W))
 
-    nothing_to_take : {e : Rejection} → TakeRejected b.concepts (numbers q).size (moment_of numbers b q) e → NothingToTake (length v.concepts) (moment_of numbers b q)
+    nothing_to_take : {e : Rejection} → TakeRejected b.counts.concepts (numbers q).size (moment_of numbers b q) e → NothingToTake (length v.concepts) (moment_of numbers b q)
     nothing_to_take (TakeRejected.small_pile l) = absurd (let w = (ready_kept O.kept R).wide in omega arith)
     nothing_to_take (TakeRejected.empty_pile _ e) = inl e
     nothing_to_take (TakeRejected.not_queued {x = x} _ t n) = inr (x, t, λ l. n (omega (arith, O.kept.frame.concepts, R.concepts)))
 
-    pub rolling_left : (Quiet v (board_of b) → ⊥) → steps < budget → {e : Rejection} (d : OpenBoard X) (r : Y) → TakeRejected b.concepts (numbers q).size (moment_of numbers b q) e →
+    pub rolling_left : (Quiet v (board_of b) → ⊥) → steps < budget → {e : Rejection} (d : OpenBoard X) (r : Y) → TakeRejected b.counts.concepts (numbers q).size (moment_of numbers b q) e →
         d ≡ b → ((x : ℕ) → (numbers r).holds x ≡ (numbers q).holds x) →
-        Sane a.concepts a.roles k (board_of a) → (es : List Event) × Runs v k budget Left steps es (moment_of numbers a p) (moment_of numbers d r)
+        Sane a.counts.concepts a.counts.roles k (board_of a) → (es : List Event) × Runs v k budget Left steps es (moment_of numbers a p) (moment_of numbers d r)
     rolling_left W l d r T e same =
         finish Left d r (other ∷ []) (Runs.left W (omega arith) (nothing_to_take T) (record {
           states = λ x h. ap (λ u. (board_of u).state x) e;
@@ -184,7 +184,7 @@ module _ {X Y : Type 0} (v : Vocabulary) (k : Kind) (numbers : Y → Numbers) (b
         }))
 
     -- a turn uses steps up, or takes a number out of the pile for good
-    pub rolling_less : steps < budget → (c : ℕ) (d : OpenBoard X) (r : Y) → Kept numbers b q d r → Took b.concepts b.roles c (moment_of numbers b q) (moment_of numbers d r) →
+    pub rolling_less : steps < budget → (c : ℕ) (d : OpenBoard X) (r : Y) → Kept numbers b q d r → Took b.counts.concepts b.counts.roles c (moment_of numbers b q) (moment_of numbers d r) →
         (more : ℕ) (f : OpenBoard X) (t : Y) → Turned v k numbers c (budget - steps) more d r f t →
         (budget - (steps + more)) * 1025 + count_of (numbers t) < (budget - steps) * 1025 + count_of (numbers q)
     rolling_less l c d r K T more f t U = ⊎_elim none some (cases_eq more 0)

@@ -115,8 +115,8 @@ pub states_word : (w : List ℕ) (n i g : ℕ) → n ≤ i → StateWords n w �
 states_word w n i g up S c l = let e = get_or-set_other w i c g 0 (omega arith) in let s = S c l in omega arith
 
 -- a write of one of the board's words leaves the further ones
-pub framed_word : {X : Type 0} {a b : OpenBoard X} (i g : ℕ) → i < room a.concepts a.roles →
-    b.concepts ≡ a.concepts → b.roles ≡ a.roles → b.words.ghost_name ≡ a.words.ghost_name → b.words.now ≡ set a.words.now i g → Framed a b
+pub framed_word : {X : Type 0} {a b : OpenBoard X} (i g : ℕ) → i < room a.counts.concepts a.counts.roles →
+    b.counts.concepts ≡ a.counts.concepts → b.counts.roles ≡ a.counts.roles → b.words.ghost_name ≡ a.words.ghost_name → b.words.now ≡ set a.words.now i g → Framed a b
 framed_word {a = a} i g l n m e w = record {
   concepts = n;
   roles = m;

@@ -20,20 +20,20 @@ pub record Filled (low high g : ℕ) (a b : List ℕ) : Type 0 where
 
 -- nothing is found or done, every concept is idle, and the further words are as before
 pub record Blank {X : Type 0} (v : Vocabulary) (k : Kind) (words : List ℕ) (b : OpenBoard X) : Type 0 where
-  pub concepts : b.concepts ≡ length v.concepts
-  pub roles : b.roles ≡ v.roles
+  pub concepts : b.counts.concepts ≡ length v.concepts
+  pub roles : b.counts.roles ≡ v.roles
   pub found : (f : Fact) → Within v f → (board_of b).found f ≡ k.none
   pub done : (j : Job) → Within v (fact_of j) → (board_of b).done j ≡ k.none
   pub state : (c : ℕ) → c < length v.concepts → (board_of b).state c ≡ Idle
   pub steps : b.steps ≡ 0
   pub extent : length b.words.now ≡ length words
-  pub further : (i : ℕ) → room b.concepts b.roles ≤ i → slice_index b.words.now i ≡ slice_index words i
+  pub further : (i : ℕ) → room b.counts.concepts b.counts.roles ≤ i → slice_index b.words.now i ≡ slice_index words i
 
 -- the start facts of the concepts below i are found, and those concepts are queued
 pub record Begun {X Y : Type 0} (v : Vocabulary) (k : Kind) (numbers : Y → Numbers) (i : ℕ) (b : OpenBoard X) (p : Y) : Type 0 where
-  pub concepts : b.concepts ≡ length v.concepts
-  pub roles : b.roles ≡ v.roles
-  pub wide : b.concepts ≤ (numbers p).size
+  pub concepts : b.counts.concepts ≡ length v.concepts
+  pub roles : b.counts.roles ≡ v.roles
+  pub wide : b.counts.concepts ≤ (numbers p).size
   pub steps : b.steps ≡ 0
   pub started : (a : ℕ) → a < i → Named v a → (board_of b).found (under a a) ≡ k.all
   pub unfound : (f : Fact) → Within v f → ((a : ℕ) → a < i → Named v a → f ≢ under a a) → (board_of b).found f ≡ k.none

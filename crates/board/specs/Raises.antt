@@ -47,9 +47,9 @@ pub record Called (v : Vocabulary) (f : Fact) (a b : Moment) : Type 0 where
 
 -- the board has the vocabulary's counts, and the pile has room for its concepts
 pub record Ready {X Y : Type 0} (v : Vocabulary) (numbers : Y → Numbers) (b : OpenBoard X) (p : Y) : Type 0 where
-  pub concepts : b.concepts ≡ length v.concepts
-  pub roles : b.roles ≡ v.roles
-  pub wide : b.concepts ≤ (numbers p).size
+  pub concepts : b.counts.concepts ≡ length v.concepts
+  pub roles : b.counts.roles ≡ v.roles
+  pub wide : b.counts.concepts ≤ (numbers p).size
 
 -- a raise, of a board and its pile before and after
 pub record Drawn {X Y : Type 0} (v : Vocabulary) (k : Kind) (numbers : Y → Numbers) (P : Fact → ℕ → Type 0) (a : OpenBoard X) (p : Y) (b : OpenBoard X) (q : Y) : Type 0 where

@@ -14,8 +14,8 @@ use Rattle.board.specs.declared.reader.finding.Line.TheVariants.{Owns, Links, Im
 
 -- the reader is of a board with the vocabulary's counts
 pub record Fitted (v : Vocabulary) (r : Reader) : Type 0 where
-  pub concepts : r.concepts ≡ length v.concepts
-  pub roles : r.roles ≡ v.roles
+  pub concepts : r.counts.concepts ≡ length v.concepts
+  pub roles : r.counts.roles ≡ v.roles
 
 -- the job of a line that goes by the number i
 abbrev pub job_of : Line → ℕ → Job

@@ -65,7 +65,7 @@ view_of words n m steps = record {
 
 -- what a board says, at whatever stage
 abbrev pub content_of : {X S : Type 0} → AnyBoard X S → Board
-content_of b = view_of b.words.now b.concepts b.roles b.steps
+content_of b = view_of b.words.now b.counts.concepts b.counts.roles b.steps
 
 -- what an open board says
 abbrev pub board_of : {X : Type 0} → OpenBoard X → Board
@@ -77,7 +77,7 @@ closed_of b = content_of b
 
 -- what a board that is lent for reading says
 abbrev pub read_of : Reader → Board
-read_of r = view_of r.words.now r.concepts r.roles r.steps
+read_of r = view_of r.words.now r.counts.concepts r.counts.roles r.steps
 
 -- a board and what its pile holds
 abbrev pub moment_of : {X Y : Type 0} → (Y → Numbers) → OpenBoard X → Y → Moment

@@ -2,6 +2,7 @@
 ghost use Rattle.std.specs.Prelude.{◌≤◌, length};
 ghost use Rattle.board.specs.Layout.{room, StateWords};
 
+use crate::counts::Counts;
 use std::marker::PhantomData;
 
 mod calls;
@@ -27,14 +28,12 @@ pub struct Closed;
 #[derive(Drop)]
 pub struct Board<'a, K, S> {
     words: &'a mut [u16],
-    pub(crate) concepts: usize,
-    pub(crate) roles: usize,
+    pub(crate) counts: Counts,
     steps: u64,
     pub(crate) kind: K,
     stage: PhantomData<S>,
-    ghost few: { (concepts ≤ 1024) × (roles ≤ 32) },
-    ghost fits: { room concepts roles ≤ length words.now },
-    ghost states: { StateWords concepts words.now },
+    ghost fits: { room counts.concepts counts.roles ≤ length words.now },
+    ghost states: { StateWords counts.concepts words.now },
 }
 
 /// A board on which work goes on.

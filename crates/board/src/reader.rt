@@ -2,6 +2,8 @@
 ghost use Rattle.std.specs.Prelude.{◌≤◌, length};
 ghost use Rattle.board.specs.Layout.{room};
 
+use crate::counts::Counts;
+
 pub(crate) mod asking;
 pub(crate) mod cells;
 mod finding;
@@ -11,9 +13,7 @@ pub(crate) mod reading;
 #[derive(Clone, Copy)]
 pub(crate) struct Reader<'b> {
     pub(crate) words: &'b [u16],
-    pub(crate) concepts: usize,
-    pub(crate) roles: usize,
+    pub(crate) counts: Counts,
     pub(crate) steps: u64,
-    ghost few: { (concepts ≤ 1024) × (roles ≤ 32) },
-    ghost fits: { room concepts roles ≤ length words.now },
+    ghost fits: { room counts.concepts counts.roles ≤ length words.now },
 }

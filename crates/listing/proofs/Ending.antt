@@ -32,9 +32,9 @@ use Rattle.listing.proofs.Asking.{lists, lists_what}
 
 module _ (k : Kind) (lawful : Lawful k) (v : Vocabulary) (wf : WellFormed v) where
   -- a run of a fresh board ends with no job waiting, and the board has a history
-  pub run_ends : {X Y : Type 0} (numbers : Y → Numbers) (words : List ℕ) (a : OpenBoard X) (p : Y) (b : OpenBoard X) (q : Y) (r : Result Ran Rejection) → MadeBy v k numbers words a p → a.concepts ≤ (numbers p).size →
+  pub run_ends : {X Y : Type 0} (numbers : Y → Numbers) (words : List ℕ) (a : OpenBoard X) (p : Y) (b : OpenBoard X) (q : Y) (r : Result Ran Rejection) → MadeBy v k numbers words a p → a.counts.concepts ≤ (numbers p).size →
       RanBy v k numbers 18446744073709551615 a p b q r → Quiet v (board_of b) × ((es : List Event) × History v k es (moment_of numbers b q))
-  run_ends numbers words a p b q (Err e) made l ran = absurd (unready v a.concepts a.roles (numbers p).size ran.0 (made.concepts, made.roles) l)
+  run_ends numbers words a p b q (Err e) made l ran = absurd (unready v a.counts.concepts a.counts.roles (numbers p).size ran.0 (made.concepts, made.roles) l)
   run_ends numbers words a p b q (Ok r) made l ran =
       let t = ran.1 made.sane in
       let few = pairs_small v k wf lawful in

@@ -16,13 +16,13 @@ use terms::terms::Terms;
 pub(crate) struct SettledBoard<'b, 'w, 't, 'l, K> {
     board: &'b ClosedBoard<'w, K>,
     terms: &'t Terms<'l>,
-    ghost settled: { Settled (terms_of terms.now) board.now.concepts board.now.roles (closed_of board.now) },
+    ghost settled: { Settled (terms_of terms.now) board.now.counts.concepts board.now.counts.roles (closed_of board.now) },
 }
 
 impl<'b, 'w, 't, 'l, K: GradeKind> SettledBoard<'b, 'w, 't, 'l, K> {
     /// The answers of a board about the terms.
     pub(crate) fn new(board: &'b ClosedBoard<'w, K>, terms: &'t Terms<'l>) -> Self
-        requires { Settled (terms_of terms.now) board.now.concepts board.now.roles (closed_of board.now) }
+        requires { Settled (terms_of terms.now) board.now.counts.concepts board.now.counts.roles (closed_of board.now) }
         ensures board { result.board.now ≡ board.now }
         ensures terms { result.terms.now ≡ terms.now }
     {

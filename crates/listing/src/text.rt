@@ -33,7 +33,7 @@ fn classify<'a, K: GradeKind, P: Pile>(
     kind: K,
 ) -> ClosedBoard<'a, K>
     requires { InOrder (terms_of terms.now) K.GradeKind.kind (length words.old) (P.Pile.numbers pile.old) }
-    ensures settled { Settled (terms_of terms.now) result.concepts result.roles (closed_of result) }
+    ensures settled { Settled (terms_of terms.now) result.counts.concepts result.counts.roles (closed_of result) }
     ensures history { (es : List Event) × (held : ℕ → Bool) × History (terms_of terms.now) K.GradeKind.kind es (record { board = closed_of result; pile = held }) }
 {
     let mut board = OpenBoard::make(terms, words, pile, kind);

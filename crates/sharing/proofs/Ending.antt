@@ -27,7 +27,7 @@ use Rattle.sharing.specs.Sharing.{Going, TookTurns, WorkDone, Untouched}
 
 module _ {X Y : Type 0} (k : Kind) (lawful : Lawful k) (v : Vocabulary) (wf : WellFormed v) (numbers : Y → Numbers) (words : List ℕ) where
   -- a board that was just made goes
-  pub made_goes : (a : OpenBoard X) (p : Y) → MadeBy v k numbers words a p → a.concepts ≤ (numbers p).size → Going v k numbers a p
+  pub made_goes : (a : OpenBoard X) (p : Y) → MadeBy v k numbers words a p → a.counts.concepts ≤ (numbers p).size → Going v k numbers a p
   made_goes a p m l = record { ready = record { concepts = m.concepts; roles = m.roles; wide = l }; sane = subst₂ (λ n r. Sane n r k (board_of a)) m.concepts m.roles m.sane }
 
   -- the history of what was done, and that all is done; no vocabulary and kind have more pairs of job and point than 2281701376
@@ -35,7 +35,7 @@ module _ {X Y : Type 0} (k : Kind) (lawful : Lawful k) (v : Vocabulary) (wf : We
   Ended b q = ((es : List Event) × History v k es (moment_of numbers b q)) × AllDone v (moment_of numbers b q)
 
   ended : (budget : ℕ) → 2281701376 ≤ budget → (a : OpenBoard X) (p : Y) (b : OpenBoard X) (q : Y) (c : OpenBoard X) (r : Y) (ran : Result Ran Rejection) → MadeBy v k numbers words a p → TookTurns v k numbers a p b q → RanBy v k numbers budget b q c r ran → Ended c r
-  ended budget enough a p b q c r (Err e) m t u = let g = t.onward.going.ready in absurd (unready v b.concepts b.roles (numbers q).size u.0 (g.concepts, g.roles) g.wide)
+  ended budget enough a p b q c r (Err e) m t u = let g = t.onward.going.ready in absurd (unready v b.counts.concepts b.counts.roles (numbers q).size u.0 (g.concepts, g.roles) g.wide)
   ended budget enough a p b q c r (Ok ran) m t u =
       let g = t.onward.going in
       let w = u.1 (subst₂ (λ n r. Sane n r k (board_of b)) (sym g.ready.concepts) (sym g.ready.roles) g.sane) in
@@ -66,7 +66,7 @@ module _ {X Y : Type 0} (k : Kind) (lawful : Lawful k) (v : Vocabulary) (wf : We
       roles = closed.roles ∙ kept.frame.roles ∙ made.roles;
       extent = ap length closed.words ∙ kept.frame.extent ∙ made.extent;
       further = λ i l.
-          let h : room a.concepts a.roles ≤ i = subst₂ (λ n m. room n m ≤ i) (closed.concepts ∙ kept.frame.concepts) (closed.roles ∙ kept.frame.roles) l in
+          let h : room a.counts.concepts a.counts.roles ≤ i = subst₂ (λ n m. room n m ≤ i) (closed.concepts ∙ kept.frame.concepts) (closed.roles ∙ kept.frame.roles) l in
           ap (λ ws. get_or ws i 0) closed.words ∙ kept.frame.further i h ∙ made.further i h;
       size = kept.size ∙ size;
       events = end.0.0;

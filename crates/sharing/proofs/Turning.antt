@@ -39,7 +39,7 @@ looked_both x (rechecked c ∷ es) fs h i = go (eqb x c) h (λ e. looked_both x 
 
 module _ {X Y : Type 0} (v : Vocabulary) (k : Kind) (numbers : Y → Numbers) where
   -- the board's own counts, in the vocabulary's words
-  counts : (P : ℕ → ℕ → Type 0) (a : OpenBoard X) (p : Y) → Ready v numbers a p → P a.concepts a.roles → P (length v.concepts) v.roles
+  counts : (P : ℕ → ℕ → Type 0) (a : OpenBoard X) (p : Y) → Ready v numbers a p → P a.counts.concepts a.counts.roles → P (length v.concepts) v.roles
   counts P a p r = subst₂ P r.concepts r.roles
 
   pub goes_on : (a : OpenBoard X) (p : Y) (b : OpenBoard X) (q : Y) → Kept numbers a p b q → StaysSane k a b → Going v k numbers a p → Going v k numbers b q
@@ -103,7 +103,7 @@ module _ {X Y : Type 0} (v : Vocabulary) (k : Kind) (numbers : Y → Numbers) wh
 
   -- a lowering and its recheck
   pub gave_back : (c : ℕ) (a : OpenBoard X) (p : Y) (b d : OpenBoard X) (q : Y) → Going v k numbers a p → Framed a b → StaysSane k a b →
-      ((pile : ℕ → Bool) → Lowered a.concepts a.roles c (record { board = board_of a; pile = pile }) (record { board = board_of b; pile = pile })) →
+      ((pile : ℕ → Bool) → Lowered a.counts.concepts a.counts.roles c (record { board = board_of a; pile = pile }) (record { board = board_of b; pile = pile })) →
       Kept numbers b p d q → StaysSane k b d → Rechecked v c (moment_of numbers b p) (moment_of numbers d q) → GaveBack v k numbers c a p d q
   gave_back c a p b d q g f s l h t r =
       let low = counts (λ n m. Lowered n m c (moment_of numbers a p) (moment_of numbers b p)) a p g.ready (l (numbers p).holds) in
@@ -115,7 +115,7 @@ module _ {X Y : Type 0} (v : Vocabulary) (k : Kind) (numbers : Y → Numbers) wh
 
   -- a take, what others do while the concept is held, and its giving back
   pub whole_turn : (c : ℕ) (a : OpenBoard X) (p : Y) (b : OpenBoard X) (q : Y) (d : OpenBoard X) (r : Y) (e : OpenBoard X) (s : Y) → Going v k numbers a p → Kept numbers a p b q → StaysSane k a b →
-      Took a.concepts a.roles c (moment_of numbers a p) (moment_of numbers b q) → TookTurns v k numbers b q d r → GaveBack v k numbers c d r e s → TookTurns v k numbers a p e s
+      Took a.counts.concepts a.counts.roles c (moment_of numbers a p) (moment_of numbers b q) → TookTurns v k numbers b q d r → GaveBack v k numbers c d r e s → TookTurns v k numbers a p e s
   whole_turn c a p b q d r e s g h t took_it m back =
       let taken = counts (λ n m. Took n m c (moment_of numbers a p) (moment_of numbers b q)) a p g.ready took_it in
       let first : Onward v k numbers (took c ∷ []) a p b q = record { kept = h; going = goes_on a p b q h t g; led = and_then nothing taken } in

@@ -47,10 +47,10 @@ closed_moment numbers b q = record { board = closed_of b; pile = (numbers q).hol
 -- a board of the vocabulary that was made and worked on, with all the work done: its grades are codes, and those of named concepts the truth;
 -- the further words and the pile's size are as before
 pub record WorkDone {X Y : Type 0} (v : Vocabulary) (k : Kind) (numbers : Y → Numbers) (words : List ℕ) (p : Y) (b : ClosedBoard X) (q : Y) : Type 0 where
-  pub concepts : b.concepts ≡ length v.concepts
-  pub roles : b.roles ≡ v.roles
+  pub concepts : b.counts.concepts ≡ length v.concepts
+  pub roles : b.counts.roles ≡ v.roles
   pub extent : length b.words.now ≡ length words
-  pub further : (i : ℕ) → room b.concepts b.roles ≤ i → slice_index b.words.now i ≡ slice_index words i
+  pub further : (i : ℕ) → room b.counts.concepts b.counts.roles ≤ i → slice_index b.words.now i ≡ slice_index words i
   pub size : (numbers q).size ≡ (numbers p).size
   pub events : List Event
   pub history : History v k events (closed_moment numbers b q)
@@ -60,8 +60,8 @@ pub record WorkDone {X Y : Type 0} (v : Vocabulary) (k : Kind) (numbers : Y → 
 
 -- the board has nothing, and nothing is touched
 pub record Untouched {X Y : Type 0} (words : List ℕ) (p : Y) (b : ClosedBoard X) (q : Y) : Type 0 where
-  pub concepts : b.concepts ≡ 0
-  pub roles : b.roles ≡ 0
+  pub concepts : b.counts.concepts ≡ 0
+  pub roles : b.counts.roles ≡ 0
   pub steps : b.steps ≡ 0
   pub same_words : b.words.now ≡ words
   pub same_pile : q ≡ p

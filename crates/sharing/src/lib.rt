@@ -25,7 +25,7 @@ fn give_back<K: GradeKind, P: Pile>(
     lease: Lease,
 )
     requires going { Going (terms_of terms.now) K.GradeKind.kind P.Pile.numbers board.old pile.old }
-    requires held { IsHeld board.old.concepts (board_of board.old) lease.concept }
+    requires held { IsHeld board.old.counts.concepts (board_of board.old) lease.concept }
     ensures { GaveBack (terms_of terms.now) K.GradeKind.kind P.Pile.numbers lease.concept board.old pile.old board.new pile.new }
 {
     match board.lower(lease) {

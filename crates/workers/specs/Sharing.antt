@@ -11,8 +11,8 @@ use Rattle.board.specs.Views.{board_of, moment_of}
 
 -- the board has the vocabulary's counts, and its grades are sane
 pub record Going {X : Type 0} (v : Vocabulary) (k : Kind) (a : OpenBoard X) : Type 0 where
-  pub concepts : a.concepts ≡ length v.concepts
-  pub roles : a.roles ≡ v.roles
+  pub concepts : a.counts.concepts ≡ length v.concepts
+  pub roles : a.counts.roles ≡ v.roles
   pub sane : Sane (length v.concepts) v.roles k (board_of a)
 
 -- from a board that goes, events lead on to one that goes

@@ -21,12 +21,12 @@ use terms::terms::Terms;
 impl<'a, K: GradeKind> OpenBoard<'a, K> {
     /// Whether the terms and the pile go with the board.
     pub(crate) fn admit<P: Pile>(&self, terms: &Terms, pile: &P) -> Result<(), Rejection>
-        ensures { MatchResult result (λ _. Ready (terms_of terms.now) P.Pile.numbers self.now pile.now) (Unready (terms_of terms.now) self.now.concepts self.now.roles (P.Pile.numbers pile.now).size) }
+        ensures { MatchResult result (λ _. Ready (terms_of terms.now) P.Pile.numbers self.now pile.now) (Unready (terms_of terms.now) self.now.counts.concepts self.now.counts.roles (P.Pile.numbers pile.now).size) }
     {
-        if self.concepts != terms.concepts().len() || self.roles != terms.roles() {
+        if self.counts.concepts != terms.concepts().len() || self.counts.roles != terms.roles() {
             return Err(Rejection::OtherTerms);
         }
-        if pile.size() < self.concepts {
+        if pile.size() < self.counts.concepts {
             return Err(Rejection::SmallPile);
         }
         Ok(())
@@ -34,10 +34,10 @@ impl<'a, K: GradeKind> OpenBoard<'a, K> {
 
     /// Whether `c` is a concept of the board that is held.
     fn is_held(&self, c: u16) -> bool
-        ensures held { result ≡ true → IsHeld self.now.concepts (board_of self.now) c }
-        ensures free { result ≡ false → IsHeld self.now.concepts (board_of self.now) c → ⊥ }
+        ensures held { result ≡ true → IsHeld self.now.counts.concepts (board_of self.now) c }
+        ensures free { result ≡ false → IsHeld self.now.counts.concepts (board_of self.now) c → ⊥ }
     {
-        if (c as usize) < self.concepts {
+        if (c as usize) < self.counts.concepts {
             match self.state(c as usize) {
                 State::Held => true,
                 State::Idle | State::Queued => false,
@@ -53,13 +53,13 @@ impl<'a, K: GradeKind> OpenBoard<'a, K> {
         ensures sane { StaysSane K.GradeKind.kind self.old self.new }
         ensures taken { Taken P.Pile.numbers self.old pile.old self.new pile.new result }
     {
-        if P::size(pile) < self.concepts {
+        if P::size(pile) < self.counts.concepts {
             return Err(Rejection::SmallPile);
         }
         let Some(concept) = pile.draw() else {
             return Err(Rejection::EmptyPile);
         };
-        if (concept as usize) < self.concepts && self.shift(concept, Change::Take) {
+        if (concept as usize) < self.counts.concepts && self.shift(concept, Change::Take) {
             return Ok(Lease { concept });
         }
         let _ = pile.put(concept);
@@ -93,7 +93,9 @@ impl<'a, K: GradeKind> OpenBoard<'a, K> {
         ensures sane { StaysSane K.GradeKind.kind self.old self.new }
         ensures lowered { LoweredBy lease self.old self.new result }
     {
-        if (lease.concept as usize) < self.concepts && self.shift(lease.concept, Change::Lower) {
+        if (lease.concept as usize) < self.counts.concepts
+            && self.shift(lease.concept, Change::Lower)
+        {
             let Lease { concept } = lease;
             Ok(LoweredLease { concept })
         } else {
@@ -133,7 +135,7 @@ impl<'a, K: GradeKind> OpenBoard<'a, K> {
                 token: lowered,
             });
         }
-        if lowered.concept as usize >= self.concepts {
+        if lowered.concept as usize >= self.counts.concepts {
             return Err(Refused {
                 rejection: Rejection::UnfitLease,
                 token: lowered,

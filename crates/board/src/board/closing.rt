@@ -13,16 +13,14 @@ impl<'a, K: GradeKind, S> Board<'a, K, S> {
     {
         let Board {
             words,
-            concepts,
-            roles,
+            counts,
             steps,
             kind,
             stage: _,
         } = self;
         Board {
             words,
-            concepts,
-            roles,
+            counts,
             steps,
             kind,
             stage: PhantomData,

@@ -10,7 +10,8 @@ ghost use Rattle.board.specs.Calls.{MadeBy, MadeEmpty};
 
 use super::OpenBoard;
 use super::states::Change;
-use crate::checking::{check, words_needed};
+use crate::checking::check;
+use crate::counts::Counts;
 use crate::lookup::is_named;
 use grades::kind::GradeKind;
 use piles::pile::Pile;
@@ -35,14 +36,12 @@ impl<'a, K: GradeKind> OpenBoard<'a, K> {
         ensures blank { Blank (terms_of terms.now) K.GradeKind.kind words.old result }
         ensures lent { result.words.ghost_name ≡ words.entry.ghost_name }
     {
-        let concepts = terms.concepts().len();
-        let roles = terms.roles();
-        fill(words, 0, concepts, 0);
-        fill(words, concepts, words_needed(concepts, roles), K::none());
+        let counts = Counts::of(terms);
+        fill(words, 0, counts.concepts, 0);
+        fill(words, counts.concepts, counts.words(), K::none());
         OpenBoard {
             words,
-            concepts,
-            roles,
+            counts,
             steps: 0,
             kind,
             stage: PhantomData,
@@ -73,8 +72,10 @@ impl<'a, K: GradeKind> OpenBoard<'a, K> {
         if let Err(_) = check(terms, words, pile, kind) {
             return OpenBoard {
                 words,
-                concepts: 0,
-                roles: 0,
+                counts: Counts {
+                    concepts: 0,
+                    roles: 0,
+                },
                 steps: 0,
                 kind,
                 stage: PhantomData,

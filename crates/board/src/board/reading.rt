@@ -16,13 +16,12 @@ impl<'a, K: GradeKind, S> Board<'a, K, S> {
     /// The board, for reading.
     pub(crate) fn reader(&self) -> Reader<'_>
         ensures view { read_of result ≡ content_of self.now }
-        ensures concepts { result.concepts ≡ self.now.concepts }
-        ensures roles { result.roles ≡ self.now.roles }
+        ensures concepts { result.counts.concepts ≡ self.now.counts.concepts }
+        ensures roles { result.counts.roles ≡ self.now.counts.roles }
     {
         Reader {
             words: &*self.words,
-            concepts: self.concepts,
-            roles: self.roles,
+            counts: self.counts,
             steps: self.steps,
         }
     }
@@ -36,7 +35,7 @@ impl<'a, K: GradeKind, S> Board<'a, K, S> {
 
     /// The found grade of a fact.
     pub(crate) fn found(&self, fact: Fact) -> u16
-        requires { Fits self.now.concepts self.now.roles fact }
+        requires { Fits self.now.counts.concepts self.now.counts.roles fact }
         ensures { result ≡ (content_of self.now).found fact }
     {
         self.reader().found(fact)
@@ -44,7 +43,7 @@ impl<'a, K: GradeKind, S> Board<'a, K, S> {
 
     /// The done grade of a job.
     pub(crate) fn done(&self, job: Job) -> u16
-        requires { Fits self.now.concepts self.now.roles (fact_of job) }
+        requires { Fits self.now.counts.concepts self.now.counts.roles (fact_of job) }
         ensures { result ≡ (content_of self.now).done job }
     {
         self.reader().done(job)
@@ -52,7 +51,7 @@ impl<'a, K: GradeKind, S> Board<'a, K, S> {
 
     /// The state of a concept.
     pub(crate) fn state(&self, c: usize) -> State
-        requires { c < self.now.concepts }
+        requires { c < self.now.counts.concepts }
         ensures { result ≡ (content_of self.now).state c }
     {
         self.reader().state(c)
@@ -60,8 +59,8 @@ impl<'a, K: GradeKind, S> Board<'a, K, S> {
 
     /// The first job that waits at a concept.
     pub(crate) fn first(&self, terms: &Terms, c: u16) -> Option<Job>
-        requires concepts { self.now.concepts ≡ length (terms_of terms.now).concepts }
-        requires roles { self.now.roles ≡ (terms_of terms.now).roles }
+        requires concepts { self.now.counts.concepts ≡ length (terms_of terms.now).concepts }
+        requires roles { self.now.counts.roles ≡ (terms_of terms.now).roles }
         requires left { c < length (terms_of terms.now).concepts }
         ensures { MatchOption result (QuietAt (terms_of terms.now) (content_of self.now) c) (First (terms_of terms.now) (content_of self.now) c) }
     {
@@ -70,8 +69,8 @@ impl<'a, K: GradeKind, S> Board<'a, K, S> {
 
     /// Whether a job waits anywhere.
     pub(crate) fn any_waits(&self, terms: &Terms) -> bool
-        requires concepts { self.now.concepts ≡ length (terms_of terms.now).concepts }
-        requires roles { self.now.roles ≡ (terms_of terms.now).roles }
+        requires concepts { self.now.counts.concepts ≡ length (terms_of terms.now).concepts }
+        requires roles { self.now.counts.roles ≡ (terms_of terms.now).roles }
         ensures waits { result ≡ true → Quiet (terms_of terms.now) (content_of self.now) → ⊥ }
         ensures quiet { result ≡ false → Quiet (terms_of terms.now) (content_of self.now) }
     {

@@ -43,7 +43,7 @@ impl<'a, K: GradeKind> OpenBoard<'a, K> {
     /// Steps at the lease's concept, lowers the lease and rechecks, and says how many steps that took.
     fn turn<P: Pile>(&mut self, terms: &Terms, pile: &mut P, lease: Lease, budget: u64) -> u64
         requires ready { Ready (terms_of terms.now) P.Pile.numbers self.old pile.old }
-        requires held { IsHeld self.old.concepts (board_of self.old) lease.concept }
+        requires held { IsHeld self.old.counts.concepts (board_of self.old) lease.concept }
         ensures { Turned (terms_of terms.now) K.GradeKind.kind P.Pile.numbers lease.concept budget result self.old pile.old self.new pile.new }
     {
         let steps = self.exhaust(terms, pile, lease.concept, budget);

@@ -27,9 +27,9 @@ pub(crate) enum Change {
 impl<'a, K: GradeKind> OpenBoard<'a, K> {
     /// Changes the state of `c` as the change asks, and says whether it asks for anything.
     pub(crate) fn shift(&mut self, c: u16, change: Change) -> bool
-        requires { c < self.old.concepts }
+        requires { c < self.old.counts.concepts }
         ensures frame { Framed self.old self.new }
-        ensures shifted { Shifted board_of self.old.concepts self.old.roles c (after change ((board_of self.old).state c)) self.old self.new result }
+        ensures shifted { Shifted board_of self.old.counts.concepts self.old.counts.roles c (after change ((board_of self.old).state c)) self.old self.new result }
     {
         let next = match (self.state(c as usize), change) {
             (State::Queued, Change::Take) => State::Held,
@@ -44,11 +44,11 @@ impl<'a, K: GradeKind> OpenBoard<'a, K> {
 
     /// Queues `c` where it is idle, and puts its number into the pile.
     pub(crate) fn queue<P: Pile>(&mut self, pile: &mut P, c: u16, change: Change)
-        requires within { c < self.old.concepts }
-        requires wide { self.old.concepts ≤ (P.Pile.numbers pile.old).size }
+        requires within { c < self.old.counts.concepts }
+        requires wide { self.old.counts.concepts ≤ (P.Pile.numbers pile.old).size }
         requires waking { (s : StateOfConcept) → after change s ≡ after raising s }
         ensures kept { Kept P.Pile.numbers self.old pile.old self.new pile.new }
-        ensures nudged { Nudged self.old.concepts self.old.roles c (moment_of P.Pile.numbers self.old pile.old) (moment_of P.Pile.numbers self.new pile.new) }
+        ensures nudged { Nudged self.old.counts.concepts self.old.counts.roles c (moment_of P.Pile.numbers self.old pile.old) (moment_of P.Pile.numbers self.new pile.new) }
     {
         if self.shift(c, change) {
             let _ = pile.put(c);

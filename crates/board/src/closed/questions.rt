@@ -17,9 +17,9 @@ use terms::terms::Terms;
 impl<'a, K: GradeKind> ClosedBoard<'a, K> {
     /// Tests that the terms have the board's counts, and that no job waits.
     fn settled(&self, terms: &Terms) -> Result<(), Rejection>
-        ensures { SettledOr (terms_of terms.now) self.now.concepts self.now.roles (closed_of self.now) result }
+        ensures { SettledOr (terms_of terms.now) self.now.counts.concepts self.now.counts.roles (closed_of self.now) result }
     {
-        if terms.concepts().len() != self.concepts || terms.roles() != self.roles {
+        if terms.concepts().len() != self.counts.concepts || terms.roles() != self.counts.roles {
             return Err(Rejection::OtherTerms);
         }
         if self.reader().any_waits(terms) {
@@ -30,11 +30,11 @@ impl<'a, K: GradeKind> ClosedBoard<'a, K> {
 
     /// The grade of "a under d", where a is a named concept.
     pub fn under(&self, terms: &Terms, a: u16, d: u16) -> Result<u16, Rejection>
-        ensures answer { Under (terms_of terms.now) self.now.concepts self.now.roles (closed_of self.now) a d result }
+        ensures answer { Under (terms_of terms.now) self.now.counts.concepts self.now.counts.roles (closed_of self.now) a d result }
         ensures truth { IfOk result (UnderTruth (terms_of terms.now) K.GradeKind.kind (closed_of self.now) a d) }
     {
         self.settled(terms)?;
-        if !terms.is_named(a) || d as usize >= self.concepts {
+        if !terms.is_named(a) || d as usize >= self.counts.concepts {
             return Err(Rejection::NoSuchConcept);
         }
         Ok(self.reader().found(Fact::Under(a, d)))
@@ -49,7 +49,7 @@ impl<'a, K: GradeKind> ClosedBoard<'a, K> {
         point: u8,
         list: &mut [u16],
     ) -> Result<usize, Rejection>
-        ensures answer { Filled question (terms_of terms.now) K.GradeKind.kind self.now.concepts self.now.roles (closed_of self.now) a point list.old list.new result }
+        ensures answer { Filled question (terms_of terms.now) K.GradeKind.kind self.now.counts.concepts self.now.counts.roles (closed_of self.now) a point list.old list.new result }
         ensures truth { IfOk result (λ n. ListTruth question (terms_of terms.now) K.GradeKind.kind (closed_of self.now) a point (take n list.new)) }
     {
         self.settled(terms)?;
@@ -86,7 +86,7 @@ impl<'a, K: GradeKind> ClosedBoard<'a, K> {
         point: u8,
         list: &mut [u16],
     ) -> Result<usize, Rejection>
-        ensures answer { Filled asking.Mates (terms_of terms.now) K.GradeKind.kind self.now.concepts self.now.roles (closed_of self.now) a point list.old list.new result }
+        ensures answer { Filled asking.Mates (terms_of terms.now) K.GradeKind.kind self.now.counts.concepts self.now.counts.roles (closed_of self.now) a point list.old list.new result }
         ensures truth { IfOk result (λ n. ListTruth asking.Mates (terms_of terms.now) K.GradeKind.kind (closed_of self.now) a point (take n list.new)) }
     {
         self.fill(terms, Question::Mates, a, point, list)
@@ -100,7 +100,7 @@ impl<'a, K: GradeKind> ClosedBoard<'a, K> {
         point: u8,
         list: &mut [u16],
     ) -> Result<usize, Rejection>
-        ensures answer { Filled asking.Parents (terms_of terms.now) K.GradeKind.kind self.now.concepts self.now.roles (closed_of self.now) a point list.old list.new result }
+        ensures answer { Filled asking.Parents (terms_of terms.now) K.GradeKind.kind self.now.counts.concepts self.now.counts.roles (closed_of self.now) a point list.old list.new result }
         ensures truth { IfOk result (λ n. ListTruth asking.Parents (terms_of terms.now) K.GradeKind.kind (closed_of self.now) a point (take n list.new)) }
     {
         self.fill(terms, Question::Parents, a, point, list)

@@ -22,5 +22,5 @@ pub(crate) struct Asked<'b, K> {
     pub(crate) question: Question,
     pub(crate) concept: u16,
     pub(crate) point: u8,
-    ghost within: { concept < board.reader.concepts },
+    ghost within: { concept < board.reader.counts.concepts },
 }

@@ -49,7 +49,7 @@ impl Line {
 impl<'b> Reader<'b> {
     /// Whether the job waits.
     fn waits(&self, job: Job) -> bool
-        requires { Fits self.now.concepts self.now.roles (fact_of job) }
+        requires { Fits self.now.counts.concepts self.now.counts.roles (fact_of job) }
         ensures waits { result ≡ true → Waits (read_of self.now) job }
         ensures rests { result ≡ false → Rests (read_of self.now) job }
     {
@@ -58,8 +58,8 @@ impl<'b> Reader<'b> {
 
     /// The number of the first job of a line that waits, of those below `end`.
     fn first_in(&self, line: Line, end: u16) -> Option<u16>
-        requires lies { Lies self.now.concepts self.now.roles line }
-        requires end { end ≤ self.now.concepts }
+        requires lies { Lies self.now.counts.concepts self.now.counts.roles line }
+        requires end { end ≤ self.now.counts.concepts }
         ensures { MatchOption result (NoneBelow (read_of self.now) line end) (FirstBelow (read_of self.now) line end) }
     {
         (0..end).find(|i| self.waits(line.job(*i)))
@@ -67,10 +67,10 @@ impl<'b> Reader<'b> {
 
     /// The first job of a line that waits.
     fn first_on(&self, line: Line) -> Option<Job>
-        requires { Lies self.now.concepts self.now.roles line }
-        ensures { MatchOption result (NoneBelow (read_of self.now) line self.now.concepts) (λ j. (i : ℕ) × (j ≡ job_of line i) × FirstBelow (read_of self.now) line self.now.concepts i) }
+        requires { Lies self.now.counts.concepts self.now.counts.roles line }
+        ensures { MatchOption result (NoneBelow (read_of self.now) line self.now.counts.concepts) (λ j. (i : ℕ) × (j ≡ job_of line i) × FirstBelow (read_of self.now) line self.now.counts.concepts i) }
     {
-        self.first_in(line, self.concepts as u16)
+        self.first_in(line, self.counts.concepts as u16)
             .map(|i| line.job(i))
     }
 
@@ -114,7 +114,7 @@ impl<'b> Reading<'b> {
         if b != c {
             return best;
         }
-        let end = best.map_or(self.reader.concepts as u16, |link| link.left);
+        let end = best.map_or(self.reader.counts.concepts as u16, |link| link.left);
         self.reader
             .first_in(Line::Links(x), end)
             .map(|left| Link { left, right: x })
@@ -126,7 +126,7 @@ impl<'b> Reading<'b> {
         ensures { BestLink (terms_of self.now.terms.now) (read_of self.now.reader) c (length (terms_of self.now.terms.now).concepts) result }
     {
         let mut best = None;
-        for x in 0..self.reader.concepts as u16 {
+        for x in 0..self.reader.counts.concepts as u16 {
             best = self.better_link(c, x, best);
         }
         best
@@ -137,7 +137,7 @@ impl<'b> Reading<'b> {
         requires { c < length (terms_of self.now.terms.now).concepts }
         ensures { MatchOption result (NoImplications (terms_of self.now.terms.now) (read_of self.now.reader) c (terms_of self.now.terms.now).roles) (λ j. (s : ℕ) × (e : ℕ) × (j ≡ imply s c e) × FirstImplication (terms_of self.now.terms.now) (read_of self.now.reader) c s e) }
     {
-        (0..self.reader.roles as u16).find_map(|s| self.reader.first_on(Line::Implications(s, c)))
+        (0..self.reader.counts.roles as u16).find_map(|s| self.reader.first_on(Line::Implications(s, c)))
     }
 
     /// The first job that waits at `c`: own jobs come first, then link jobs, then implication jobs.
@@ -159,7 +159,7 @@ impl<'b> Reading<'b> {
         ensures waits { result ≡ true → Quiet (terms_of self.now.terms.now) (read_of self.now.reader) → ⊥ }
         ensures quiet { result ≡ false → QuietWhere (terms_of self.now.terms.now) (read_of self.now.reader) idle (length (terms_of self.now.terms.now).concepts) }
     {
-        (0..self.reader.concepts as u16).any(|c| self.reader.is_idle(c as usize) == idle
+        (0..self.reader.counts.concepts as u16).any(|c| self.reader.is_idle(c as usize) == idle
             && self.first(c).is_some())
     }
 

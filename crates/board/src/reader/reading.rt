@@ -10,6 +10,6 @@ use terms::terms::Terms;
 pub(crate) struct Reading<'b> {
     pub(crate) reader: Reader<'b>,
     pub(crate) terms: &'b Terms<'b>,
-    ghost concepts: { reader.concepts ≡ length (terms_of terms.now).concepts },
-    ghost roles: { reader.roles ≡ (terms_of terms.now).roles },
+    ghost concepts: { reader.counts.concepts ≡ length (terms_of terms.now).concepts },
+    ghost roles: { reader.counts.roles ≡ (terms_of terms.now).roles },
 }

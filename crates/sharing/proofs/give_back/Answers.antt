@@ -10,7 +10,7 @@ use Rattle.sharing.proofs.Turning.{gave_back}
 use Rattle.sharing.proofs.give_back.Goals as goal
 
 pub unreachable-requires : goal.unreachable-requires
-unreachable-requires g c = lowers c.args.board.now.concepts (board_of c.args.board.now) c.args.lease.concept c.in-Err.ensures.lowered.0 c.requires.held
+unreachable-requires g c = lowers c.args.board.now.counts.concepts (board_of c.args.board.now) c.args.lease.concept c.in-Err.ensures.lowered.0 c.requires.held
 
 pub unreachable-requires-in-Err-recheck : goal.unreachable-requires-in-Err-recheck
 unreachable-requires-in-Err-recheck g c =
@@ -20,7 +20,7 @@ unreachable-requires-in-Err-recheck g c =
     let p = c.args.pile.now in
     let K : Kept numbers c.args.board.now p b p = kept_framed c.in-Ok.ensures.kept kept_same in
     let R : Ready v numbers b p = ready_kept K c.requires.going.ready in
-    rechecks v b.concepts b.roles (numbers p).size c.in-Ok.lowered.concept c.in-Err-recheck.ensures.rechecked.0 (R.concepts, R.roles) R.wide
+    rechecks v b.counts.concepts b.counts.roles (numbers p).size c.in-Ok.lowered.concept c.in-Err-recheck.ensures.rechecked.0 (R.concepts, R.roles) R.wide
     (omega (arith, K.frame.concepts, c.requires.held.0, c.in-Ok.ensures.lowered.0))
 
 pub returns : goal.returns

@@ -17,7 +17,7 @@ pub work-requires : goal.work-requires
 work-requires g c =
     let order = c.in_default.ensures in
     let made = c.make-board.ensures.made order in
-    let wide : c.make-board.result.concepts ≤ (g.P.Pile.numbers c.make-board.new.pile).size = omega (arith, made.concepts, c.make-board.ensures.size, order.wide) in
+    let wide : c.make-board.result.counts.concepts ≤ (g.P.Pile.numbers c.make-board.new.pile).size = omega (arith, made.concepts, c.make-board.ensures.size, order.wide) in
     made_goes g.K.GradeKind.kind g.met.K.GradeKind.lawful (terms_of c.args.terms.now) (well_formed c.args.terms.now) g.P.Pile.numbers c.args.words.now c.make-board.result c.make-board.new.pile made wide
 
 pub returns : goal.returns

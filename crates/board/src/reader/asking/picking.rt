@@ -10,7 +10,7 @@ use reasoning::Fact;
 impl<'b, K: GradeKind> Asked<'b, K> {
     /// The same, asked about `b`.
     fn of(&self, b: u16) -> Asked<'b, K>
-        requires { b < self.now.board.reader.concepts }
+        requires { b < self.now.board.reader.counts.concepts }
         ensures concept { result.concept ≡ b }
         ensures rest { (result.board ≡ self.now.board) × (result.point ≡ self.now.point) }
     {
@@ -25,7 +25,7 @@ impl<'b, K: GradeKind> Asked<'b, K> {
 
     /// Whether `c` is found under `d` at the point.
     fn lies_under(&self, c: u16, d: u16) -> bool
-        requires { (c < self.now.board.reader.concepts) × (d < self.now.board.reader.concepts) }
+        requires { (c < self.now.board.reader.counts.concepts) × (d < self.now.board.reader.counts.concepts) }
         ensures { result ≡ under_test K.GradeKind.kind (read_of self.now.board.reader) self.now.point c d }
     {
         K::holds(self.board.reader.found(Fact::Under(c, d)), self.point)
@@ -43,7 +43,7 @@ impl<'b, K: GradeKind> Asked<'b, K> {
 
     /// Whether `c` lies strictly between the concept and `b`.
     fn is_between(&self, b: u16, c: u16) -> bool
-        requires { b < self.now.board.reader.concepts }
+        requires { b < self.now.board.reader.counts.concepts }
         ensures { result ≡ asked_of between_test K.GradeKind.kind self.now b c }
     {
         self.board.terms.is_named(c)
@@ -62,15 +62,15 @@ impl<'b, K: GradeKind> Asked<'b, K> {
 
     /// Whether no concept lies strictly between the concept and `b`.
     fn nothing_between(&self, b: u16) -> bool
-        requires { b < self.now.board.reader.concepts }
-        ensures { result ≡ asked_of (nothing_between_test self.now.board.reader.concepts) K.GradeKind.kind self.now b }
+        requires { b < self.now.board.reader.counts.concepts }
+        ensures { result ≡ asked_of (nothing_between_test self.now.board.reader.counts.concepts) K.GradeKind.kind self.now b }
     {
-        (0..self.board.reader.concepts as u16).all(|c| !self.is_between(b, c))
+        (0..self.board.reader.counts.concepts as u16).all(|c| !self.is_between(b, c))
     }
 
     /// Whether `b` is a parent of the concept.
     fn is_parent(&self, b: u16) -> bool
-        ensures { result ≡ asked_of (parent_test self.now.board.reader.concepts) K.GradeKind.kind self.now b }
+        ensures { result ≡ asked_of (parent_test self.now.board.reader.counts.concepts) K.GradeKind.kind self.now b }
     {
         self.board.terms.is_named(b)
             && self.lies_under(self.concept, b)
@@ -91,20 +91,20 @@ impl<'b, K: GradeKind> Asked<'b, K> {
 
     /// How many concepts belong to the answer.
     pub(crate) fn count_wanted(&self) -> usize
-        ensures { result ≡ length (picked (wanted K.GradeKind.kind self.now) self.now.board.reader.concepts) }
+        ensures { result ≡ length (picked (wanted K.GradeKind.kind self.now) self.now.board.reader.counts.concepts) }
     {
-        (0..self.board.reader.concepts as u16)
+        (0..self.board.reader.counts.concepts as u16)
             .filter(|b| self.is_wanted(*b))
             .count()
     }
 
     /// Writes the answer, ascending, to the front of the list.
     pub(crate) fn write_wanted(&self, list: &mut [u16])
-        requires { length (picked (wanted K.GradeKind.kind self.now) self.now.board.reader.concepts) ≤ length list.old }
-        ensures { list.new ≡ picked (wanted K.GradeKind.kind self.now) self.now.board.reader.concepts ++ drop (length (picked (wanted K.GradeKind.kind self.now) self.now.board.reader.concepts)) list.old }
+        requires { length (picked (wanted K.GradeKind.kind self.now) self.now.board.reader.counts.concepts) ≤ length list.old }
+        ensures { list.new ≡ picked (wanted K.GradeKind.kind self.now) self.now.board.reader.counts.concepts ++ drop (length (picked (wanted K.GradeKind.kind self.now) self.now.board.reader.counts.concepts)) list.old }
     {
         let mut filled = 0;
-        for b in 0..self.board.reader.concepts as u16 {
+        for b in 0..self.board.reader.counts.concepts as u16 {
             if self.is_wanted(b) {
                 list[filled] = b;
                 filled += 1;

@@ -11,7 +11,7 @@ returns g c =
     let v = terms_of c.args.terms.now in
     let k = g.K.GradeKind.kind in
     let made = c.make-board.ensures.made c.requires in
-    let wide : c.make-board.result.concepts ≤ (g.P.Pile.numbers c.make-board.new.pile).size = omega (arith, made.concepts, c.make-board.ensures.size, c.requires.wide) in
+    let wide : c.make-board.result.counts.concepts ≤ (g.P.Pile.numbers c.make-board.new.pile).size = omega (arith, made.concepts, c.make-board.ensures.size, c.requires.wide) in
     let end = run_ends k g.met.K.GradeKind.lawful v (well_formed c.args.terms.now) g.P.Pile.numbers c.args.words.now c.make-board.result c.make-board.new.pile c.run.new.self c.run.new.pile c.run.result made wide c.run.ensures.ran in
     let view = sym c.close.ensures.view in
     record {

@@ -11,7 +11,7 @@ pub returns-else-lease-self : goal.returns-else-lease-self
 returns-else-lease-self g c =
     let a = c.args.self.now in
     let x = c.args.lease.concept in
-    let both : (c.else-lease-self.self ≡ a) × (IsHeld a.concepts (board_of a) x → ⊥) =
+    let both : (c.else-lease-self.self ≡ a) × (IsHeld a.counts.concepts (board_of a) x → ⊥) =
     elim c.else-lease-self.branch [
       | else-lease-self-via-then-lease-self+else-shift w ↦
           let s = shift_no x a w.shift.new.self (after Lower ((board_of a).state x)) w.if-shift.ensures.shifted in

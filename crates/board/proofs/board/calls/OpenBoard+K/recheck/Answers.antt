@@ -24,5 +24,5 @@ returns g c =
     let a = c.args.self.now in
     let b = c.review.new.self in
     let R = c.in_default.ensures in
-    let G : SameGrades a.concepts a.roles (board_of a) (board_of b) = subst₂ (λ n m. SameGrades n m (board_of a) (board_of b)) (sym R.concepts) (sym R.roles) c.review.ensures.rechecked.grades in
-    record { kept = c.review.ensures.kept; sane = same_sane a.concepts a.roles g.K.GradeKind.kind (board_of a) (board_of b) G; rechecked = (R, c.review.ensures.rechecked) }
+    let G : SameGrades a.counts.concepts a.counts.roles (board_of a) (board_of b) = subst₂ (λ n m. SameGrades n m (board_of a) (board_of b)) (sym R.concepts) (sym R.roles) c.review.ensures.rechecked.grades in
+    record { kept = c.review.ensures.kept; sane = same_sane a.counts.concepts a.counts.roles g.K.GradeKind.kind (board_of a) (board_of b) G; rechecked = (R, c.review.ensures.rechecked) }

@@ -12,7 +12,7 @@ pub returns-in-Some : goal.returns-in-Some
 returns-in-Some g c =
     record {
       kept = c.queue.ensures.kept;
-      rechecked = rechecked_queued (terms_of c.args.terms.now) c.args.self.now.concepts c.args.self.now.roles c.args.c c.in-Some.field-0
+      rechecked = rechecked_queued (terms_of c.args.terms.now) c.args.self.now.counts.concepts c.args.self.now.counts.roles c.args.c c.in-Some.field-0
           (moment_of g.P.Pile.numbers c.args.self.now c.args.pile.now) (moment_of g.P.Pile.numbers c.queue.new.self c.queue.new.pile)
           c.requires.ready.concepts c.requires.ready.roles c.queue.ensures.nudged c.requires.left c.in-Some.ensures;
     }

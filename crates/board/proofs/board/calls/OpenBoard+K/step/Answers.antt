@@ -35,7 +35,7 @@ returns-in-Some g c =
     let B = moment_of numbers c.work.new.self c.work.new.pile in
     let R = c.in_ok-admit.ensures in
     let D = c.in-Some.ensures.work in
-    let to : Sane a.concepts a.roles k (board_of a) → Sane (length v.concepts) v.roles k (board_of a) = subst₂ (λ n m. Sane n m k (board_of a)) R.concepts R.roles in
+    let to : Sane a.counts.concepts a.counts.roles k (board_of a) → Sane (length v.concepts) v.roles k (board_of a) = subst₂ (λ n m. Sane n m k (board_of a)) R.concepts R.roles in
     record {
       kept = c.in-Some.ensures.kept;
       sane = λ S. subst₂ (λ n m. Sane n m k (board_of c.work.new.self)) (sym R.concepts) (sym R.roles) (still_sane v k g.met.K.GradeKind.lawful c.args.lease.now.concept c.in-Some.job A B D (to S));

@@ -27,7 +27,7 @@ returns g c =
     let numbers = g.P.Pile.numbers in
     let D = c.in-Some.ensures.set in
     let B = put_back (numbers c.args.pile.now) (numbers c.draw.new.self) (numbers c.put.new.self) x c.put.result D c.put.ensures.set in
-    let both : (c.else-concept-self.self ≡ a) × (x < a.concepts → (board_of a).state x ≡ Queued → ⊥) =
+    let both : (c.else-concept-self.self ≡ a) × (x < a.counts.concepts → (board_of a).state x ≡ Queued → ⊥) =
     elim c.else-concept-self.branch [
       | else-concept-self-via-then-concept-self+else-shift w ↦
           let s = shift_no x a w.shift.new.self (after Take ((board_of a).state x)) w.if-shift.ensures.shifted in

@@ -1,37 +1,29 @@
-use Rattle.std.proofs.Common.{◌≡◌, ◌≤◌, length, sym, refl, ap, ◌∙◌, subst₂, arith}
+use Rattle.std.proofs.Common.{◌≡◌, ◌≤◌, sym, refl, ap, ◌∙◌, subst₂, arith, length}
 use Rattle.terms.specs.Views.{terms_of}
-use Rattle.terms.proofs.Formed.{well_formed}
 use Rattle.reasoning.specs.Derivations.{Fits, fact_of}
 use Rattle.board.specs.Layout.{room, StateWords}
 use Rattle.board.specs.Views.{spot, mark, state_of}
 use Rattle.board.proofs.Words.{spot_inside, mark_inside}
 use Rattle.board.proofs.board.making.OpenBoard+K.blank.Goals as goal
 
-pub words_needed-requires : goal.words_needed-requires
-words_needed-requires g c =
-    let W = well_formed c.args.terms.now in
-    (omega (arith, W.few_concepts, ap length c.concepts-concepts.ensures), omega (arith, W.few_roles))
-
 pub invariant_of-result : goal.invariant_of-result
 invariant_of-result g c =
-    let W = well_formed c.args.terms.now in
-    let n = length c.concepts-concepts.result.now in
-    let m = c.roles-roles.result in
-    let en : n ≡ length (terms_of c.args.terms.now).concepts = ap length c.concepts-concepts.ensures in
+    let n = c.of-counts.result.concepts in
+    let m = c.of-counts.result.roles in
     let r : room n m ≤ length c.args.words.now =
-    subst₂ (λ x y. room x y ≤ length c.args.words.now) (sym en) (sym c.roles-roles.ensures) c.requires in
+    subst₂ (λ x y. room x y ≤ length c.args.words.now) (sym c.of-counts.ensures.concepts) (sym c.of-counts.ensures.roles) c.requires in
     let S : StateWords n c.fill-2.new.words = λ x l. omega (arith, c.fill-2.ensures.before x l, c.fill.ensures.inside x (omega arith) l) in
-    record { few = (omega (arith, W.few_concepts), omega (arith, W.few_roles)); fits = (omega arith); states = S }
+    record { fits = omega arith; states = S }
 
 pub returns : goal.returns
 returns g c =
     let v = terms_of c.args.terms.now in
-    let n = length c.concepts-concepts.result.now in
-    let m = c.roles-roles.result in
-    let en : n ≡ length v.concepts = ap length c.concepts-concepts.ensures in
-    let em : m ≡ v.roles = c.roles-roles.ensures in
+    let n = c.of-counts.result.concepts in
+    let m = c.of-counts.result.roles in
+    let en : n ≡ length v.concepts = c.of-counts.ensures.concepts in
+    let em : m ≡ v.roles = c.of-counts.ensures.roles in
     let F = c.fill-2.ensures in
-    let need_words : c.words_needed.result ≡ room n m = c.words_needed.ensures in
+    let need_words : c.words.result ≡ room n m = c.words.ensures in
     let none : c.none.result ≡ g.K.GradeKind.kind.none = c.none.ensures in
     record {
       blank = record {

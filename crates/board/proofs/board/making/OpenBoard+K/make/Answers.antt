@@ -53,7 +53,7 @@ returns g c =
         made = M;
         sane = subst₂ (λ n m. Sane n m k (board_of b)) (sym B.concepts) (sym B.roles) (made_sane v k g.met.K.GradeKind.lawful (moment_of numbers b q) M);
         extent = K.frame.extent ∙ Z.extent;
-        further = λ i h. let h' : room first.concepts first.roles ≤ i = subst₂ (λ n m. room n m ≤ i) K.frame.concepts K.frame.roles h in K.frame.further i h' ∙ Z.further i h';
+        further = λ i h. let h' : room first.counts.concepts first.counts.roles ≤ i = subst₂ (λ n m. room n m ≤ i) K.frame.concepts K.frame.roles h in K.frame.further i h' ∙ Z.further i h';
       };
       empty = λ e R. absurd (not_in_order v k (length c.args.words.now) (numbers c.args.pile.now) c.in_default.ensures R);
     }

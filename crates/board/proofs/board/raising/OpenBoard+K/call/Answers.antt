@@ -41,7 +41,7 @@ returns-in-Restriction g c =
     let B : Moment = moment_of g.P.Pile.numbers c.queue-in-Restriction.new.self c.queue-in-Restriction.new.pile in
     record {
       kept = kept_then c.queue.ensures.kept c.queue-in-Restriction.ensures.kept;
-      called = subst (λ f. Called v f A B) (sym c.in-Under.is) (called_two v (under n d) c.args.self.now.concepts c.args.self.now.roles c.queue.new.self.concepts c.queue.new.self.roles n b
+      called = subst (λ f. Called v f A B) (sym c.in-Under.is) (called_two v (under n d) c.args.self.now.counts.concepts c.args.self.now.counts.roles c.queue.new.self.counts.concepts c.queue.new.self.counts.roles n b
           A M B
           c.requires.ready.concepts c.requires.ready.roles (c.queue.ensures.kept.frame.concepts ∙ c.requires.ready.concepts) (c.queue.ensures.kept.frame.roles ∙ c.requires.ready.roles)
           c.queue.ensures.nudged c.queue-in-Restriction.ensures.nudged (left_works v n d w) (filler_works v n d r b w i)
@@ -59,7 +59,7 @@ returns-in_default g c =
     let B : Moment = moment_of g.P.Pile.numbers c.queue.new.self c.queue.new.pile in
     record {
       kept = c.queue.ensures.kept;
-      called = subst (λ f. Called v f A B) (sym c.in-Under.is) (called_one v (under n d) c.args.self.now.concepts c.args.self.now.roles n A B
+      called = subst (λ f. Called v f A B) (sym c.in-Under.is) (called_one v (under n d) c.args.self.now.counts.concepts c.args.self.now.counts.roles n A B
           c.requires.ready.concepts c.requires.ready.roles
           c.queue.ensures.nudged (left_works v n d w)
           (λ x u. ⊎_elim (λ e. e) (λ s. absurd (c.in_default.not-Restriction s.0 x (c.concept_at.ensures ∙ s.1.1))) (works_under v n d x u)) w.0);
@@ -76,6 +76,6 @@ returns-in-Implies g c =
     let B : Moment = moment_of g.P.Pile.numbers c.queue-in-Implies.new.self c.queue-in-Implies.new.pile in
     record {
       kept = c.queue-in-Implies.ensures.kept;
-      called = subst (λ f. Called v f A B) (sym c.in-Implies.is) (called_one v (implies s n e) c.args.self.now.concepts c.args.self.now.roles n A B
+      called = subst (λ f. Called v f A B) (sym c.in-Implies.is) (called_one v (implies s n e) c.args.self.now.counts.concepts c.args.self.now.counts.roles n A B
           c.requires.ready.concepts c.requires.ready.roles c.queue-in-Implies.ensures.nudged (premise_works v s n e w) (works_implies v s n e) w.1);
     }

@@ -15,7 +15,7 @@ pub unreachable-requires : goal.unreachable-requires
 unreachable-requires g c =
     let b = c.exhaust-steps.new.self in
     let E = c.exhaust-steps.ensures in
-    lowers b.concepts (board_of b) c.args.lease.concept c.in-Err.ensures.lowered.0 (omega (arith, E.kept.frame.concepts, c.requires.held.0), E.held)
+    lowers b.counts.concepts (board_of b) c.args.lease.concept c.in-Err.ensures.lowered.0 (omega (arith, E.kept.frame.concepts, c.requires.held.0), E.held)
 
 pub unreachable-requires-in-Err-recheck : goal.unreachable-requires-in-Err-recheck
 unreachable-requires-in-Err-recheck g c =
@@ -25,7 +25,7 @@ unreachable-requires-in-Err-recheck g c =
     let q = c.exhaust-steps.new.pile in
     let K : Kept numbers c.args.self.now c.args.pile.now d q = kept_then c.exhaust-steps.ensures.kept (kept_framed c.in-Ok.ensures.kept kept_same) in
     let R : Ready v numbers d q = ready_kept K c.requires.ready in
-    rechecks v d.concepts d.roles (numbers q).size c.in-Ok.lowered.concept c.in-Err-recheck.ensures.rechecked.0 (R.concepts, R.roles) R.wide
+    rechecks v d.counts.concepts d.counts.roles (numbers q).size c.in-Ok.lowered.concept c.in-Err-recheck.ensures.rechecked.0 (R.concepts, R.roles) R.wide
     (omega (arith, K.frame.concepts, c.requires.held.0, c.in-Ok.ensures.lowered.0))
 
 pub returns : goal.returns

@@ -21,7 +21,7 @@ fits v f e d w = subst₂ (λ n m. Fits n m f) (sym e) (sym d) w
 
 pub found-grade-requires : goal.found-grade-requires
 found-grade-requires g c =
-    subst (λ f. Fits c.args.self.now.concepts c.args.self.now.roles f) (sym c.fact_of.ensures)
+    subst (λ f. Fits c.args.self.now.counts.concepts c.args.self.now.counts.roles f) (sym c.fact_of.ensures)
     (fits (terms_of c.args.terms.now) (fact_of c.in-Some.job) c.requires.ready.concepts c.requires.ready.roles (at_within _ c.in-Some.ensures.at))
 
 pub write_done-requires : goal.write_done-requires

@@ -5,13 +5,13 @@ use Rattle.board.proofs.board.writes.OpenBoard+K.write_found.Goals as goal
 pub invariant_of-self : goal.invariant_of-self
 invariant_of-self g c =
     let b = c.args.self.now in
-    record { few = b.few; fits = omega (arith, b.fits, length-set b.words.now c.spot_of-at.result c.args.g); states = states_word b.words.now b.concepts c.spot_of-at.result c.args.g c.spot_of-at.ensures.above b.states }
+    record { fits = omega (arith, b.fits, length-set b.words.now c.spot-at.result c.args.g); states = states_word b.words.now b.counts.concepts c.spot-at.result c.args.g c.spot-at.ensures.above b.states }
 
 pub returns : goal.returns
 returns g c =
     let b = c.args.self.now in
     record {
-      frame = framed_word c.spot_of-at.result c.args.g c.spot_of-at.ensures.inside refl refl refl refl;
-      wrote = wrote_word b.words.now b.concepts b.roles b.steps c.args.fact c.args.g c.spot_of-at.result
-          c.spot_of-at.ensures.is (omega arith) c.spot_of-at.ensures.above c.requires;
+      frame = framed_word c.spot-at.result c.args.g c.spot-at.ensures.inside refl refl refl refl;
+      wrote = wrote_word b.words.now b.counts.concepts b.counts.roles b.steps c.args.fact c.args.g c.spot-at.result
+          c.spot-at.ensures.is (omega arith) c.spot-at.ensures.above c.requires;
     }

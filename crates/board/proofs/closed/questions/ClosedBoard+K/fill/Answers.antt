@@ -37,8 +37,8 @@ returns-then-count-list-clause-answer g c =
     let s = settled_of c.in_ok-settled.was c.settled.ensures in
     let i = named_is v c.args.a (sym c.if-not-is_named.ensures) in
     let r = c.reader.result in
-    let xs : List ℕ = picked (wanted_test c.args.question r.concepts v g.K.GradeKind.kind (read_of r) c.args.point c.args.a) r.concepts in
-    let is = asked_list c.args.question v g.K.GradeKind.kind (read_of r) (closed_of c.args.self.now) c.args.point c.args.a r.concepts i c.reader.ensures.view (c.reader.ensures.concepts ∙ s.0.0) in
+    let xs : List ℕ = picked (wanted_test c.args.question r.counts.concepts v g.K.GradeKind.kind (read_of r) c.args.point c.args.a) r.counts.concepts in
+    let is = asked_list c.args.question v g.K.GradeKind.kind (read_of r) (closed_of c.args.self.now) c.args.point c.args.a r.counts.concepts i c.reader.ensures.view (c.reader.ensures.concepts ∙ s.0.0) in
     let point = subst (λ (m : ℕ). c.args.point < m) c.points.ensures c.if-point-points.false in
     short_list refl s i point xs is (subst (λ (m : ℕ). length c.args.list.now < m) c.count_wanted-count.ensures c.if-count-list.true)
 
@@ -50,8 +50,8 @@ returns g c =
     let s = settled_of c.in_ok-settled.was c.settled.ensures in
     let i = named_is v c.args.a (sym c.if-not-is_named.ensures) in
     let r = c.reader.result in
-    let xs : List ℕ = picked (wanted_test c.args.question r.concepts v k (read_of r) c.args.point c.args.a) r.concepts in
-    let is : ListOf (Wanted c.args.question v (FoundUnder k b c.args.point) c.args.a) xs = asked_list c.args.question v k (read_of r) b c.args.point c.args.a r.concepts i c.reader.ensures.view (c.reader.ensures.concepts ∙ s.0.0) in
+    let xs : List ℕ = picked (wanted_test c.args.question r.counts.concepts v k (read_of r) c.args.point c.args.a) r.counts.concepts in
+    let is : ListOf (Wanted c.args.question v (FoundUnder k b c.args.point) c.args.a) xs = asked_list c.args.question v k (read_of r) b c.args.point c.args.a r.counts.concepts i c.reader.ensures.view (c.reader.ensures.concepts ∙ s.0.0) in
     let point : c.args.point < k.points = subst (λ (m : ℕ). c.args.point < m) c.points.ensures c.if-point-points.false in
     let few : length xs ≤ length c.args.list.now = subst (λ (m : ℕ). m ≤ length c.args.list.now) c.count_wanted-count.ensures c.if-count-list.false in
     let count : c.count_wanted-count.result ≡ length xs = c.count_wanted-count.ensures in

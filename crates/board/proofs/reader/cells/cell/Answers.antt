@@ -1,8 +1,0 @@
-use Rattle.std.proofs.Common.{refl, arith}
-use Rattle.board.proofs.Places.{place_inside}
-use Rattle.board.proofs.reader.cells.cell.Goals as goal
-
-pub returns : goal.returns
-returns c =
-    let p = place_inside c.args.concepts c.args.roles c.args.plane c.args.c c.args.d (omega arith) (omega arith) (omega arith) in
-    record { is = refl; above = omega arith; inside = p }

@@ -1,0 +1,67 @@
+//! How many words the counts ask for, and where each grade lies.
+ghost use Rattle.std.specs.Prelude.{◌≡◌, ◌+◌, ◌*◌, ◌<◌, ◌≤◌, length};
+ghost use Rattle.terms.specs.Views.{terms_of};
+ghost use Rattle.reasoning.specs.Derivations.{Fits, fact_of};
+ghost use Rattle.board.specs.Layout.{place, room};
+ghost use Rattle.board.specs.Views.{spot, mark};
+
+use super::Counts;
+use reasoning::{Fact, Job};
+use terms::terms::Terms;
+
+impl Counts {
+    /// The counts of the terms.
+    pub(crate) fn of(terms: &Terms) -> Self
+        ensures concepts { result.concepts ≡ length (terms_of terms.now).concepts }
+        ensures roles { result.roles ≡ (terms_of terms.now).roles }
+    {
+        Counts {
+            concepts: terms.concepts().len(),
+            roles: terms.roles(),
+        }
+    }
+
+    /// How many words a board needs.
+    pub(crate) fn words(self) -> usize
+        ensures { result ≡ room self.concepts self.roles }
+    {
+        self.concepts * self.concepts * (3 + 2 * self.roles) + self.concepts
+    }
+
+    /// The word at row `c` and column `d` of a plane.
+    fn cell(self, plane: usize, c: u16, d: u16) -> usize
+        requires { (plane < 3 + 2 * self.roles) × ((c < self.concepts) × (d < self.concepts)) }
+        ensures is { result ≡ place self.concepts plane c d }
+        ensures above { self.concepts ≤ result }
+        ensures inside { result < room self.concepts self.roles }
+    {
+        self.concepts + (plane * self.concepts + c as usize) * self.concepts + d as usize
+    }
+
+    /// The word of a fact's found grade.
+    pub(crate) fn spot(self, fact: Fact) -> usize
+        requires { Fits self.concepts self.roles fact }
+        ensures is { result ≡ spot self.concepts fact }
+        ensures above { self.concepts ≤ result }
+        ensures inside { result < room self.concepts self.roles }
+    {
+        match fact {
+            Fact::Under(c, d) => self.cell(0, c, d),
+            Fact::Implies(s, c, e) => self.cell(3 + s as usize, c, e),
+        }
+    }
+
+    /// The word of a job's done grade.
+    pub(crate) fn mark(self, job: Job) -> usize
+        requires { Fits self.concepts self.roles (fact_of job) }
+        ensures is { result ≡ mark self.concepts self.roles job }
+        ensures above { self.concepts ≤ result }
+        ensures inside { result < room self.concepts self.roles }
+    {
+        match job {
+            Job::Own(c, d) => self.cell(1, c, d),
+            Job::Link(c, d) => self.cell(2, c, d),
+            Job::Imply(s, c, e) => self.cell(3 + self.roles + s as usize, c, e),
+        }
+    }
+}
