@@ -1,6 +1,7 @@
 -- A run after workers took turns on a fresh board ends with all the work done, and so the answer is the truth.
-use Rattle.std.proofs.Common.{◌≡◌, ℕ, ◌≤◌, List, ◌++◌, length, get_or, Ok, Err, Result, sym, ap, ◌∙◌, subst, subst₂, inl, inr, arith}
+use Rattle.std.proofs.Common.{◌≡◌, ℕ, ◌≤◌, true, false, List, ◌++◌, length, get_or, Ok, Err, Result, sym, ap, ◌∙◌, subst, subst₂, inl, inr, arith}
 use Rattle.std.proofs.lemmas.Bool.{both_ways}
+use Rattle.std.specs.Result.{is_err, MatchResult}
 use Rattle.rejections.specs.declared.Rejection.{Rejection}
 use Rattle.grades.specs.Kinds.{Kind, Lawful}
 use Rattle.piles.specs.Sets.{Numbers}
@@ -23,11 +24,11 @@ use Rattle.board.specs.Calls.{MadeBy, MadeEmpty, RanBy, SameBoard}
 use Rattle.board.proofs.Frames.{kept_then}
 use Rattle.board.proofs.Running.{unready}
 use Rattle.workers.specs.Sharing.{Truthful}
-use Rattle.sharing.specs.Sharing.{Going, TookTurns, WorkDone, Untouched}
+use Rattle.sharing.specs.Sharing.{Workable, TookTurns, WorkDone, Untouched}
 
 module _ {X Y : Type 0} (k : Kind) (lawful : Lawful k) (v : Vocabulary) (wf : WellFormed v) (numbers : Y → Numbers) (words : List ℕ) where
   -- a board that was just made goes
-  pub made_goes : (a : OpenBoard X) (p : Y) → MadeBy v k numbers words a p → a.counts.concepts ≤ (numbers p).size → Going v k numbers a p
+  pub made_goes : (a : OpenBoard X) (p : Y) → MadeBy v k numbers words a p → a.counts.concepts ≤ (numbers p).size → Workable v k numbers a p
   made_goes a p m l = record { ready = record { concepts = m.concepts; roles = m.roles; wide = l }; sane = subst₂ (λ n r. Sane n r k (board_of a)) m.concepts m.roles m.sane }
 
   -- the history of what was done, and that all is done; no vocabulary and kind have more pairs of job and point than 2281701376
@@ -92,3 +93,15 @@ in_order o (MakeRejected.foreign_code {i = i} m l) = let h = o.coded i m in omeg
 in_order o (MakeRejected.too_few_words c l) = let h = o.enough in omega arith
 in_order o (MakeRejected.unfit_pile c l (inl h)) = let w = o.wide in omega arith
 in_order {s = s} o (MakeRejected.unfit_pile c l (inr t)) = both_ways (s.holds t.0) (o.empty t.0) t.1
+
+no_truth : false ≡ true → ⊥
+no_truth e = let z : ◌≡◌ {A = ℕ} 0 1 = cc in omega arith
+
+-- what a check says, where it found something wrong and where it did not
+pub found_wrong : {v : Vocabulary} {k : Kind} {words : ℕ} {s : Numbers} (r : Result (Unit {0}) Rejection) → is_err r ≡ true → MatchResult r (λ _. InOrder v k words s) (MakeRejected v k words s) → (e : Rejection) × MakeRejected v k words s e
+found_wrong (Ok x) h m = absurd (no_truth h)
+found_wrong (Err e) h m = (e, m)
+
+pub found_right : {v : Vocabulary} {k : Kind} {words : ℕ} {s : Numbers} (r : Result (Unit {0}) Rejection) → is_err r ≡ false → MatchResult r (λ _. InOrder v k words s) (MakeRejected v k words s) → InOrder v k words s
+found_right (Ok x) h m = m
+found_right (Err e) h m = absurd (no_truth (sym h))

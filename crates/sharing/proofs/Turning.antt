@@ -1,6 +1,7 @@
 -- How the calls of workers lead on, one after another.
-use Rattle.std.proofs.Common.{◌≡◌, ℕ, Bool, true, false, cond, eqb, List, [], ◌∷◌, ◌++◌, length, Ok, Err, Result, sym, refl, ap, ◌∙◌, subst, subst₂, inl, inr, arith}
+use Rattle.std.proofs.Common.{◌≡◌, ℕ, ◌<◌, Bool, true, false, cond, eqb, List, [], ◌∷◌, ◌++◌, length, Ok, Err, Result, sym, refl, ap, ◌∙◌, subst, subst₂, inl, inr, arith}
 use Rattle.std.proofs.lemmas.Bool.{cases_eq, eq-eqb, ne_eqb}
+use Rattle.std.specs.Result.{IsOk}
 use Rattle.rejections.specs.declared.Rejection.{Rejection}
 use Rattle.grades.specs.Kinds.{Kind}
 use Rattle.piles.specs.Sets.{Numbers}
@@ -13,12 +14,16 @@ use Rattle.saturation.proofs.Places.{idle≢held, held≢queued}
 use Rattle.saturation.proofs.Finish.{join_leads, granted_of, given_back_of}
 use Rattle.board.specs.Stages.{OpenBoard}
 use Rattle.board.specs.declared.tokens.Lease.{Lease}
+use Rattle.board.specs.declared.tokens.LoweredLease.{LoweredLease}
+use Rattle.board.specs.declared.tokens.Refused.{Refused}
 use Rattle.board.specs.Views.{board_of, moment_of}
 use Rattle.board.specs.Frames.{Framed, Kept}
 use Rattle.board.specs.Raises.{Ready}
-use Rattle.board.specs.Calls.{StaysSane, Taken, Stepped}
+use Rattle.board.specs.Refusals.{IsHeld}
+use Rattle.board.specs.Calls.{StaysSane, Taken, Stepped, LoweredBy, RecheckedBy}
 use Rattle.board.proofs.Frames.{kept_same, kept_then, kept_framed, ready_kept}
-use Rattle.sharing.specs.Sharing.{Going, Onward, GaveBack, TookTurns}
+use Rattle.board.proofs.Running.{lowers, rechecks}
+use Rattle.sharing.specs.Sharing.{Workable, LedBy, GaveBack, TookTurns}
 
 -- what two lists of events both looked at, one after the other
 looked_both : (x : ℕ) (es fs : List Event) → unrechecked x es ≡ false → unrechecked x fs ≡ false → unrechecked x (es ++ fs) ≡ false
@@ -37,19 +42,30 @@ looked_both x (rechecked c ∷ es) fs h i = go (eqb x c) h (λ e. looked_both x 
     go true e f = e
     go false e f = f e
 
+-- a lease of a held concept is lowered
+pub lowered_ok : {X : Type 0} (lease : Lease) (a b : OpenBoard X) (r : Result LoweredLease (Refused Lease)) → LoweredBy lease a b r → IsHeld a.counts.concepts (board_of a) lease.concept → IsOk r
+lowered_ok lease a b (Ok t) l h = refl
+lowered_ok lease a b (Err r) l h = absurd (lowers a.counts.concepts (board_of a) lease.concept l.0 h)
+
+-- a lowered lease of a concept of the board is rechecked
+pub rechecked_ok : {X Y : Type 0} (v : Vocabulary) (numbers : Y → Numbers) (low : LoweredLease) (a : OpenBoard X) (p : Y) (b : OpenBoard X) (q : Y) (r : Result (Unit {0}) (Refused LoweredLease)) →
+    RecheckedBy v numbers low a p b q r → Ready v numbers a p → low.concept < a.counts.concepts → IsOk r
+rechecked_ok v numbers low a p b q (Ok t) l ready h = refl
+rechecked_ok v numbers low a p b q (Err r) l ready h = absurd (rechecks v a.counts.concepts a.counts.roles (numbers p).size low.concept l.0 (ready.concepts, ready.roles) ready.wide h)
+
 module _ {X Y : Type 0} (v : Vocabulary) (k : Kind) (numbers : Y → Numbers) where
   -- the board's own counts, in the vocabulary's words
   counts : (P : ℕ → ℕ → Type 0) (a : OpenBoard X) (p : Y) → Ready v numbers a p → P a.counts.concepts a.counts.roles → P (length v.concepts) v.roles
   counts P a p r = subst₂ P r.concepts r.roles
 
-  pub goes_on : (a : OpenBoard X) (p : Y) (b : OpenBoard X) (q : Y) → Kept numbers a p b q → StaysSane k a b → Going v k numbers a p → Going v k numbers b q
+  pub goes_on : (a : OpenBoard X) (p : Y) (b : OpenBoard X) (q : Y) → Kept numbers a p b q → StaysSane k a b → Workable v k numbers a p → Workable v k numbers b q
   goes_on a p b q h s g = record {
     ready = ready_kept h g.ready;
     sane = counts (λ n m. Sane n m k (board_of b)) a p g.ready (s (subst₂ (λ n m. Sane n m k (board_of a)) (sym g.ready.concepts) (sym g.ready.roles) g.sane));
   }
 
   -- one after the other
-  pub onward_then : {es fs : List Event} {a b c : OpenBoard X} {p q r : Y} → Onward v k numbers es a p b q → Onward v k numbers fs b q c r → Onward v k numbers (fs ++ es) a p c r
+  pub onward_then : {es fs : List Event} {a b c : OpenBoard X} {p q r : Y} → LedBy v k numbers es a p b q → LedBy v k numbers fs b q c r → LedBy v k numbers (fs ++ es) a p c r
   onward_then o u = record { kept = kept_then o.kept u.kept; going = u.going; led = join_leads o.led u.led }
 
   pub turns_then : {a b c : OpenBoard X} {p q r : Y} → TookTurns v k numbers a p b q → TookTurns v k numbers b q c r → TookTurns v k numbers a p c r
@@ -62,11 +78,11 @@ module _ {X Y : Type 0} (v : Vocabulary) (k : Kind) (numbers : Y → Numbers) wh
   }
 
   -- nothing happens
-  pub no_turns : (a : OpenBoard X) (p : Y) → Going v k numbers a p → TookTurns v k numbers a p a p
+  pub no_turns : (a : OpenBoard X) (p : Y) → Workable v k numbers a p → TookTurns v k numbers a p a p
   no_turns a p g = record { events = []; onward = record { kept = kept_same; going = g; led = nothing }; balanced = refl; looked_at = λ c. refl; held = λ x l h. h }
 
   -- a call that leaves the board and what the pile holds
-  idle_turn : (a : OpenBoard X) (p : Y) (b : OpenBoard X) (q : Y) → Going v k numbers a p → Kept numbers a p b q → b ≡ a → ((x : ℕ) → (numbers q).holds x ≡ (numbers p).holds x) → TookTurns v k numbers a p b q
+  idle_turn : (a : OpenBoard X) (p : Y) (b : OpenBoard X) (q : Y) → Workable v k numbers a p → Kept numbers a p b q → b ≡ a → ((x : ℕ) → (numbers q).holds x ≡ (numbers p).holds x) → TookTurns v k numbers a p b q
   idle_turn a p b q g h e s = record {
     events = other ∷ [];
     onward = record {
@@ -84,11 +100,11 @@ module _ {X Y : Type 0} (v : Vocabulary) (k : Kind) (numbers : Y → Numbers) wh
   }
 
   -- a take that is rejected
-  pub not_taken : (a : OpenBoard X) (p : Y) (b : OpenBoard X) (q : Y) (e : Rejection) → Going v k numbers a p → Kept numbers a p b q → Taken numbers a p b q (Err e) → TookTurns v k numbers a p b q
+  pub not_taken : (a : OpenBoard X) (p : Y) (b : OpenBoard X) (q : Y) (e : Rejection) → Workable v k numbers a p → Kept numbers a p b q → Taken numbers a p b q (Err e) → TookTurns v k numbers a p b q
   not_taken a p b q e g h t = idle_turn a p b q g h t.1 t.2
 
   -- a step, done or rejected
-  pub stepped : (lease : Lease) (a : OpenBoard X) (p : Y) (b : OpenBoard X) (q : Y) (r : Result Job Rejection) → Going v k numbers a p → Kept numbers a p b q → StaysSane k a b → Stepped v k numbers lease a p b q r →
+  pub stepped : (lease : Lease) (a : OpenBoard X) (p : Y) (b : OpenBoard X) (q : Y) (r : Result Job Rejection) → Workable v k numbers a p → Kept numbers a p b q → StaysSane k a b → Stepped v k numbers lease a p b q r →
       TookTurns v k numbers a p b q
   stepped lease a p b q (Ok j) g h s t =
       let w = t.1 (subst₂ (λ n m. Sane n m k (board_of a)) (sym g.ready.concepts) (sym g.ready.roles) g.sane) in
@@ -102,7 +118,7 @@ module _ {X Y : Type 0} (v : Vocabulary) (k : Kind) (numbers : Y → Numbers) wh
   stepped lease a p b q (Err e) g h s t = idle_turn a p b q g h t.1 (λ x. ap (λ y. (numbers y).holds x) t.2)
 
   -- a lowering and its recheck
-  pub gave_back : (c : ℕ) (a : OpenBoard X) (p : Y) (b d : OpenBoard X) (q : Y) → Going v k numbers a p → Framed a b → StaysSane k a b →
+  pub gave_back : (c : ℕ) (a : OpenBoard X) (p : Y) (b d : OpenBoard X) (q : Y) → Workable v k numbers a p → Framed a b → StaysSane k a b →
       ((pile : ℕ → Bool) → Lowered a.counts.concepts a.counts.roles c (record { board = board_of a; pile = pile }) (record { board = board_of b; pile = pile })) →
       Kept numbers b p d q → StaysSane k b d → Rechecked v c (moment_of numbers b p) (moment_of numbers d q) → GaveBack v k numbers c a p d q
   gave_back c a p b d q g f s l h t r =
@@ -114,11 +130,11 @@ module _ {X Y : Type 0} (v : Vocabulary) (k : Kind) (numbers : Y → Numbers) wh
       }
 
   -- a take, what others do while the concept is held, and its giving back
-  pub whole_turn : (c : ℕ) (a : OpenBoard X) (p : Y) (b : OpenBoard X) (q : Y) (d : OpenBoard X) (r : Y) (e : OpenBoard X) (s : Y) → Going v k numbers a p → Kept numbers a p b q → StaysSane k a b →
+  pub whole_turn : (c : ℕ) (a : OpenBoard X) (p : Y) (b : OpenBoard X) (q : Y) (d : OpenBoard X) (r : Y) (e : OpenBoard X) (s : Y) → Workable v k numbers a p → Kept numbers a p b q → StaysSane k a b →
       Took a.counts.concepts a.counts.roles c (moment_of numbers a p) (moment_of numbers b q) → TookTurns v k numbers b q d r → GaveBack v k numbers c d r e s → TookTurns v k numbers a p e s
   whole_turn c a p b q d r e s g h t took_it m back =
       let taken = counts (λ n m. Took n m c (moment_of numbers a p) (moment_of numbers b q)) a p g.ready took_it in
-      let first : Onward v k numbers (took c ∷ []) a p b q = record { kept = h; going = goes_on a p b q h t g; led = and_then nothing taken } in
+      let first : LedBy v k numbers (took c ∷ []) a p b q = record { kept = h; going = goes_on a p b q h t g; led = and_then nothing taken } in
       let es = m.events ++ took c ∷ [] in
       record {
         events = rechecked c ∷ lowered c ∷ es;

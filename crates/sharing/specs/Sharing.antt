@@ -17,25 +17,25 @@ use Rattle.board.specs.Raises.{Ready}
 use Rattle.workers.specs.Sharing.{Truthful}
 
 -- the board has the vocabulary's counts and sane grades, and the pile has room for its concepts
-pub record Going {X Y : Type 0} (v : Vocabulary) (k : Kind) (numbers : Y → Numbers) (a : OpenBoard X) (p : Y) : Type 0 where
+pub record Workable {X Y : Type 0} (v : Vocabulary) (k : Kind) (numbers : Y → Numbers) (a : OpenBoard X) (p : Y) : Type 0 where
   pub ready : Ready v numbers a p
   pub sane : Sane (length v.concepts) v.roles k (board_of a)
 
 -- these events lead from one board and its pile to another, over the same words, which goes on
-pub record Onward {X Y : Type 0} (v : Vocabulary) (k : Kind) (numbers : Y → Numbers) (es : List Event) (a : OpenBoard X) (p : Y) (b : OpenBoard X) (q : Y) : Type 0 where
+pub record LedBy {X Y : Type 0} (v : Vocabulary) (k : Kind) (numbers : Y → Numbers) (es : List Event) (a : OpenBoard X) (p : Y) (b : OpenBoard X) (q : Y) : Type 0 where
   pub kept : Kept numbers a p b q
-  pub going : Going v k numbers b q
+  pub going : Workable v k numbers b q
   pub led : Leads v k es (moment_of numbers a p) (moment_of numbers b q)
 
 -- the concept is lowered and rechecked, and what else is held stays held
 pub record GaveBack {X Y : Type 0} (v : Vocabulary) (k : Kind) (numbers : Y → Numbers) (c : ℕ) (a : OpenBoard X) (p : Y) (b : OpenBoard X) (q : Y) : Type 0 where
-  pub onward : Onward v k numbers (rechecked c ∷ lowered c ∷ []) a p b q
+  pub onward : LedBy v k numbers (rechecked c ∷ lowered c ∷ []) a p b q
   pub held : (x : ℕ) → x < length v.concepts → (x ≢ c) → (board_of a).state x ≡ Held → (board_of b).state x ≡ Held
 
 -- some events lead on, in which every lease taken is lowered and every lowering rechecked, and what was held before stays held
 pub record TookTurns {X Y : Type 0} (v : Vocabulary) (k : Kind) (numbers : Y → Numbers) (a : OpenBoard X) (p : Y) (b : OpenBoard X) (q : Y) : Type 0 where
   pub events : List Event
-  pub onward : Onward v k numbers events a p b q
+  pub onward : LedBy v k numbers events a p b q
   pub balanced : granted events ≡ given_back events
   pub looked_at : (c : ℕ) → unrechecked c events ≡ false
   pub held : (x : ℕ) → x < length v.concepts → (board_of a).state x ≡ Held → (board_of b).state x ≡ Held

@@ -7,7 +7,7 @@ ghost use Rattle.rejections.specs.declared.Rejection.{Rejection as Reason};
 ghost use Rattle.terms.specs.Views.{terms_of};
 ghost use Rattle.board.specs.Views.{board_of};
 ghost use Rattle.board.specs.Refusals.{IsHeld, InOrder, MakeRejected};
-ghost use Rattle.sharing.specs.Sharing.{Going, GaveBack, TookTurns, WorkDone, Untouched};
+ghost use Rattle.sharing.specs.Sharing.{Workable, GaveBack, TookTurns, WorkDone, Untouched};
 
 use board::board::OpenBoard;
 use board::checking::check;
@@ -24,35 +24,27 @@ fn give_back<K: GradeKind, P: Pile>(
     pile: &mut P,
     lease: Lease,
 )
-    requires going { Going (terms_of terms.now) K.GradeKind.kind P.Pile.numbers board.old pile.old }
+    requires going { Workable (terms_of terms.now) K.GradeKind.kind P.Pile.numbers board.old pile.old }
     requires held { IsHeld board.old.counts.concepts (board_of board.old) lease.concept }
     ensures { GaveBack (terms_of terms.now) K.GradeKind.kind P.Pile.numbers lease.concept board.old pile.old board.new pile.new }
 {
-    match board.lower(lease) {
-        Err(_) => unreachable(),
-        Ok(lowered) => match board.recheck(terms, pile, lowered) {
-            Err(_) => unreachable(),
-            Ok(()) => {}
-        },
-    }
+    let lowered = board.lower(lease).unwrap();
+    board.recheck(terms, pile, lowered).unwrap();
 }
 
 /// Lets so many workers share the board, as far as there are concepts to take: each takes one and holds it while the others work, then does a
 /// job there, if one still waits, and gives the concept back.
 fn work<K: GradeKind, P: Pile>(board: &mut OpenBoard<K>, terms: &Terms, pile: &mut P, workers: u16)
-    requires { Going (terms_of terms.now) K.GradeKind.kind P.Pile.numbers board.old pile.old }
+    requires { Workable (terms_of terms.now) K.GradeKind.kind P.Pile.numbers board.old pile.old }
     ensures { TookTurns (terms_of terms.now) K.GradeKind.kind P.Pile.numbers board.old pile.old board.new pile.new }
 {
     if workers == 0 {
         return;
     }
-    match board.take(pile) {
-        Err(_) => {}
-        Ok(lease) => {
-            work(board, terms, pile, workers - 1);
-            let _ = board.step(terms, pile, &lease);
-            give_back(board, terms, pile, lease);
-        }
+    if let Ok(lease) = board.take(pile) {
+        work(board, terms, pile, workers - 1);
+        let _ = board.step(terms, pile, &lease);
+        give_back(board, terms, pile, lease);
     }
 }
 
@@ -70,7 +62,7 @@ pub fn share<'a, K: GradeKind, P: Pile>(
     ensures done { InOrder (terms_of terms.now) K.GradeKind.kind (length words.old) (P.Pile.numbers pile.old) → WorkDone (terms_of terms.now) K.GradeKind.kind P.Pile.numbers words.old pile.old result pile.new }
     ensures empty { (e : Reason) → MakeRejected (terms_of terms.now) K.GradeKind.kind (length words.old) (P.Pile.numbers pile.old) e → Untouched words.old pile.old result pile.new }
 {
-    if let Err(_) = check(terms, words, pile, kind) {
+    if check(terms, words, pile, kind).is_err() {
         return OpenBoard::make(terms, words, pile, kind).close();
     }
     let mut board = OpenBoard::make(terms, words, pile, kind);

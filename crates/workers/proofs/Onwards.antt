@@ -17,7 +17,10 @@ use Rattle.board.specs.Views.{board_of, moment_of}
 use Rattle.board.specs.Frames.{Framed}
 use Rattle.board.specs.Calls.{StaysSane, MadeBy, Taken, Stepped, LoweredBy, RecheckedBy, RanBy}
 use Rattle.saturation.proofs.Finish.{join_leads, runs_lead}
+use Rattle.terms.specs.Views.{terms_of}
+use Rattle.workers.specs.declared.shop.Shop.{Shop}
 use Rattle.workers.specs.Sharing.{Going, Onward}
+use Rattle.workers.specs.Shops.{GoesOn}
 
 -- the same counts, in other words
 counts : (P : ℕ → ℕ → Type 0) {n n' m m' : ℕ} → n ≡ n' → m ≡ m' → P n m → P n' m'
@@ -81,3 +84,14 @@ module _ {X Y : Type 0} (v : Vocabulary) (k : Kind) (numbers : Y → Numbers) wh
   history_of words a p b q closed m on e =
       let t = (on (made_goes words a p m)).1 in
       (t.0, subst (λ (x : Board). History v k t.0 (record { board = x; pile = (numbers q).holds })) (sym e) (record { begin = moment_of numbers a p; made = m.made; led = t.1 }))
+
+-- what is done in a shop, one after the other
+pub then_on : {X Y : Type 0} {k : Kind} {numbers : Y → Numbers} {s t u : Shop X Y} → GoesOn k numbers s t → GoesOn k numbers t u → GoesOn k numbers s u
+then_on {k = k} {numbers = numbers} {s = s} {t = t} {u = u} g h =
+    let onward = subst (λ x. Onward (terms_of x.now) k numbers t.board.now t.pile.now u.board.now u.pile.now) g.terms h.onward in
+    record {
+      terms = h.terms ∙ g.terms;
+      board = h.board ∙ g.board;
+      pile = h.pile ∙ g.pile;
+      onward = on_and_on (terms_of s.terms.now) k numbers s.board.now s.pile.now t.board.now t.pile.now u.board.now u.pile.now g.onward onward;
+    }

@@ -20,10 +20,10 @@ give_back-requires g t c =
     let n = turns.onward.going.ready.concepts in
     record { going = turns.onward.going; held = (omega arith, turns.held c.in-Ok.lease.concept low taken.held) }
 
-pub returns-in-Err : goal.returns-in-Err
-returns-in-Err g t c =
-    not_taken (terms_of c.args.terms.now) g.K.GradeKind.kind g.P.Pile.numbers c.args.board.now c.args.pile.now c.take.new.self c.take.new.pile c.in-Err.field-0 c.requires
-    c.in-Err.ensures.kept c.in-Err.ensures.taken
+pub returns-in_default : goal.returns-in_default
+returns-in_default g t c =
+    not_taken (terms_of c.args.terms.now) g.K.GradeKind.kind g.P.Pile.numbers c.args.board.now c.args.pile.now c.take.new.self c.take.new.pile c.in_default.field-0 c.requires
+    c.in_default.ensures.kept c.in_default.ensures.taken
 
 pub returns-in-Ok : goal.returns-in-Ok
 returns-in-Ok g t c =
