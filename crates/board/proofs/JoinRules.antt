@@ -20,7 +20,7 @@ use Rattle.board.specs.declared.board.joins.Join.{Join}
 use Rattle.board.specs.declared.board.joins.Link.{Link}
 use Rattle.board.specs.declared.board.joins.Implication.{Implication}
 use Rattle.board.specs.OwnDraws.{AnyBelow}
-use Rattle.board.specs.JoinDraws.{partner, conclusion, Placed, Heads, ByPartners, ByRole, ByJoin, ByLink, ByFiller, ByImplication}
+use Rattle.board.specs.JoinDraws.{partner, conclusion, Placed, Heads, ByPartner, ByPartners, ByRole, ByJoin, ByLink, ByFiller, ByImplication}
 use Rattle.board.proofs.Meets.{meets, parts}
 
 one_role : {k : Concept} {r x r' x' : ℕ} → k ≡ Restriction r x → k ≡ Restriction r' x' → r ≡ r'
@@ -40,9 +40,12 @@ conclusion_within v (Links x e) Direct i p h l = (l, p.1)
 conclusion_within v (Links x e) (Through t) i p h l = (h, l, p.1)
 
 -- what is drawn hangs on the done grades of the vocabulary's jobs alone
+pub partner_done : (k : Kind) (done done' : Job → ℕ) (ps : Partners) (h : Head) (g i : ℕ) → done (partner ps i) ≡ done' (partner ps i) → (f : Fact) (p : ℕ) → ByPartner k done ps h g i f p → ByPartner k done' ps h g i f p
+partner_done k done done' ps h g i e f p t = (t.0, subst (λ u. k.holds (k.meet g u) p ≡ true) e t.1)
+
 module _ (v : Vocabulary) (k : Kind) (done done' : Job → ℕ) where
   pub partners_done : (ps : Partners) (h : Head) (g : ℕ) → Placed v ps → ((i : Job) → Within v (fact_of i) → done i ≡ done' i) → (f : Fact) (p : ℕ) → ByPartners v k done ps h g f p → ByPartners v k done' ps h g f p
-  partners_done ps h g P same f p (i, l, t) = (i, l, (t.0, subst (λ u. k.holds (k.meet g u) p ≡ true) (same (partner ps i) (partner_within v ps i P l)) t.1))
+  partners_done ps h g P same f p (i, l, t) = (i, l, partner_done k done done' ps h g i (same (partner ps i) (partner_within v ps i P l)) f p t)
 
   pub roles_done : (ps : Partners) (j : Join) → Placed v ps → ((i : Job) → Within v (fact_of i) → done i ≡ done' i) → (f : Fact) (p : ℕ) → AnyBelow v.roles (ByRole v k done ps j) f p → AnyBelow v.roles (ByRole v k done' ps j) f p
   roles_done ps j P same f p (t, l, (b, u)) = (t, l, (b, partners_done ps (Through t) j.grade P same f p u))

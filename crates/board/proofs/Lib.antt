@@ -4,6 +4,7 @@ pub mod Frames
 pub mod Raising
 pub mod Calling
 pub mod Drawing
+pub mod Sessions
 pub mod Members
 pub mod Shapes
 pub mod Meets

@@ -7,6 +7,7 @@ pub mod Raises
 pub mod OwnDraws
 pub mod JoinDraws
 pub mod Searches
+pub mod Sessions
 pub mod Deeds
 pub mod Making
 pub mod Refusals

@@ -13,6 +13,7 @@ mod own;
 mod raising;
 mod reading;
 pub mod running;
+mod session;
 mod states;
 mod working;
 mod writes;

@@ -1,19 +1,18 @@
 //! What the two joining rules draw: they have a link job and an implication job as premises, of one concept.
-ghost use Rattle.std.specs.Prelude.{◌≡◌, ◌<◌, length, slice_index_or};
+ghost use Rattle.std.specs.Prelude.{◌≡◌, ◌<◌, slice_index_or};
 ghost use Rattle.terms.specs.declared.records.Concept.TheVariants.{Atomic as atomic};
 ghost use Rattle.terms.specs.Views.{terms_of};
 ghost use Rattle.board.specs.Views.{board_of};
-ghost use Rattle.board.specs.Raises.{Ready, Drawn};
+ghost use Rattle.board.specs.Sessions.{SessionDrawn};
 ghost use Rattle.board.specs.OwnDraws.{AnyBelow};
 ghost use Rattle.board.specs.JoinDraws.{partner, conclusion, Placed, Heads, ByPartner, ByPartners, ByRole, ByJoin, ByLink, ByFiller, ByImplication};
 
-use super::OpenBoard;
+use super::session::Session;
 use crate::lookup::concept_at;
 use grades::kind::GradeKind;
 use piles::pile::Pile;
 use reasoning::{Fact, Job};
 use terms::records::Concept;
-use terms::terms::Terms;
 
 /// The jobs that can be the other premise, where one premise is given. Each goes by the number of a concept.
 #[derive(Clone, Copy)]
@@ -101,155 +100,108 @@ impl Partners {
     }
 }
 
-impl<'a, K: GradeKind> OpenBoard<'a, K> {
+impl<'w, 'a, 't, K: GradeKind, P: Pile> Session<'w, 'a, 't, K, P> {
     /// Draws by the partner with the number `i`.
-    fn draw_partner<P: Pile>(
-        &mut self,
-        terms: &Terms,
-        pile: &mut P,
-        partners: Partners,
-        head: Head,
-        grade: u16,
-        i: u16,
-    )
-        requires ready { Ready (terms_of terms.now) P.Pile.numbers self.old pile.old }
-        requires placed { Placed (terms_of terms.now) partners }
-        requires heads { Heads (terms_of terms.now) head }
-        requires number { i < length (terms_of terms.now).concepts }
-        ensures { Drawn (terms_of terms.now) K.GradeKind.kind P.Pile.numbers (ByPartner K.GradeKind.kind (board_of self.old).done partners head grade i) self.old pile.old self.new pile.new }
+    fn draw_partner(&mut self, partners: Partners, head: Head, grade: u16, i: u16)
+        requires placed { Placed (terms_of self.old.terms.now) partners }
+        requires heads { Heads (terms_of self.old.terms.now) head }
+        requires number { i < self.old.board.now.counts.concepts }
+        ensures { SessionDrawn K.GradeKind.kind P.Pile.numbers (λ _. ByPartner K.GradeKind.kind (board_of self.old.board.now).done partners head grade i) self.old self.new }
     {
-        let met = K::meet(grade, self.done(partners.job(i)));
+        let met = K::meet(grade, self.board.done(partners.job(i)));
         if met != K::none() {
-            self.raise(terms, pile, partners.fact(head, i), met);
+            self.raise(partners.fact(head, i), met);
         }
     }
 
     /// Draws by every partner.
-    fn draw_partners<P: Pile>(
-        &mut self,
-        terms: &Terms,
-        pile: &mut P,
-        partners: Partners,
-        head: Head,
-        grade: u16,
-    )
-        requires ready { Ready (terms_of terms.now) P.Pile.numbers self.old pile.old }
-        requires placed { Placed (terms_of terms.now) partners }
-        requires heads { Heads (terms_of terms.now) head }
-        ensures { Drawn (terms_of terms.now) K.GradeKind.kind P.Pile.numbers (ByPartners (terms_of terms.now) K.GradeKind.kind (board_of self.old).done partners head grade) self.old pile.old self.new pile.new }
+    fn draw_partners(&mut self, partners: Partners, head: Head, grade: u16)
+        requires placed { Placed (terms_of self.old.terms.now) partners }
+        requires heads { Heads (terms_of self.old.terms.now) head }
+        ensures { SessionDrawn K.GradeKind.kind P.Pile.numbers (λ v. ByPartners v K.GradeKind.kind (board_of self.old.board.now).done partners head grade) self.old self.new }
     {
-        for i in 0..terms.concepts().len() {
-            self.draw_partner(terms, pile, partners, head, grade, i as u16);
+        for i in 0..self.terms.concepts().len() {
+            self.draw_partner(partners, head, grade, i as u16);
         }
     }
 
     /// Draws through the transitive roles between the two.
-    fn draw_roles<P: Pile>(&mut self, terms: &Terms, pile: &mut P, partners: Partners, join: Join)
-        requires ready { Ready (terms_of terms.now) P.Pile.numbers self.old pile.old }
-        requires placed { Placed (terms_of terms.now) partners }
-        ensures { Drawn (terms_of terms.now) K.GradeKind.kind P.Pile.numbers (AnyBelow (terms_of terms.now).roles (ByRole (terms_of terms.now) K.GradeKind.kind (board_of self.old).done partners join)) self.old pile.old self.new pile.new }
+    fn draw_roles(&mut self, partners: Partners, join: Join)
+        requires { Placed (terms_of self.old.terms.now) partners }
+        ensures { SessionDrawn K.GradeKind.kind P.Pile.numbers (λ v. AnyBelow v.roles (ByRole v K.GradeKind.kind (board_of self.old.board.now).done partners join)) self.old self.new }
     {
+        let terms = self.terms;
         for t in 0..terms.roles() {
             if terms.is_below(join.link as usize, t)
                 && terms.is_below(t, join.implication as usize)
                 && terms.is_transitive(t)
             {
-                self.draw_partners(terms, pile, partners, Head::Through(t as u16), join.grade);
+                self.draw_partners(partners, Head::Through(t as u16), join.grade);
             }
         }
     }
 
     /// Draws all that the joining rules draw with the given premise and its partners. Unless the link's role lies below the
     /// implication's, there is nothing.
-    pub(crate) fn draw_join<P: Pile>(
-        &mut self,
-        terms: &Terms,
-        pile: &mut P,
-        partners: Partners,
-        join: Join,
-    )
-        requires ready { Ready (terms_of terms.now) P.Pile.numbers self.old pile.old }
-        requires placed { Placed (terms_of terms.now) partners }
-        ensures { Drawn (terms_of terms.now) K.GradeKind.kind P.Pile.numbers (ByJoin (terms_of terms.now) K.GradeKind.kind (board_of self.old).done partners join) self.old pile.old self.new pile.new }
+    fn draw_join(&mut self, partners: Partners, join: Join)
+        requires { Placed (terms_of self.old.terms.now) partners }
+        ensures { SessionDrawn K.GradeKind.kind P.Pile.numbers (λ v. ByJoin v K.GradeKind.kind (board_of self.old.board.now).done partners join) self.old self.new }
     {
-        if terms.is_below(join.link as usize, join.implication as usize) {
-            self.draw_partners(terms, pile, partners, Head::Direct, join.grade);
-            self.draw_roles(terms, pile, partners, join);
+        if self.terms.is_below(join.link as usize, join.implication as usize) {
+            self.draw_partners(partners, Head::Direct, join.grade);
+            self.draw_roles(partners, join);
         }
     }
 
     /// Draws all that a link job draws.
-    pub(crate) fn draw_link<P: Pile>(&mut self, terms: &Terms, pile: &mut P, link: Link)
-        requires ready { Ready (terms_of terms.now) P.Pile.numbers self.old pile.old }
-        requires left { link.left < length (terms_of terms.now).concepts }
-        requires filler { link.filler < length (terms_of terms.now).concepts }
-        ensures { Drawn (terms_of terms.now) K.GradeKind.kind P.Pile.numbers (ByLink (terms_of terms.now) K.GradeKind.kind (board_of self.old).done link) self.old pile.old self.new pile.new }
+    pub(super) fn draw_link(&mut self, link: Link)
+        requires left { link.left < self.old.board.now.counts.concepts }
+        requires filler { link.filler < self.old.board.now.counts.concepts }
+        ensures { SessionDrawn K.GradeKind.kind P.Pile.numbers (λ v. ByLink v K.GradeKind.kind (board_of self.old.board.now).done link) self.old self.new }
     {
-        for s in 0..terms.roles() {
+        for s in 0..self.terms.roles() {
+            let role = s as u16;
             let partners = Partners::Implications {
                 left: link.left,
-                role: s as u16,
+                role,
                 filler: link.filler,
             };
-            self.draw_join(
-                terms,
-                pile,
-                partners,
-                Join {
-                    link: link.role,
-                    implication: s as u16,
-                    grade: link.grade,
-                },
-            );
+            self.draw_join(partners, Join {
+                link: link.role,
+                implication: role,
+                grade: link.grade,
+            });
         }
     }
 
     /// Draws what an implication job draws with the links by the concept `x`, where that restricts a role to the job's left concept.
-    fn draw_filler<P: Pile>(
-        &mut self,
-        terms: &Terms,
-        pile: &mut P,
-        implication: Implication,
-        x: u16,
-    )
-        requires ready { Ready (terms_of terms.now) P.Pile.numbers self.old pile.old }
-        requires right { implication.right < length (terms_of terms.now).concepts }
-        requires by { x < length (terms_of terms.now).concepts }
-        ensures { Drawn (terms_of terms.now) K.GradeKind.kind P.Pile.numbers (ByFiller (terms_of terms.now) K.GradeKind.kind (board_of self.old).done implication x (slice_index_or (terms_of terms.now).concepts x atomic)) self.old pile.old self.new pile.new }
+    fn draw_filler(&mut self, implication: Implication, x: u16)
+        requires right { implication.right < self.old.board.now.counts.concepts }
+        requires by { x < self.old.board.now.counts.concepts }
+        ensures { SessionDrawn K.GradeKind.kind P.Pile.numbers (λ v. ByFiller v K.GradeKind.kind (board_of self.old.board.now).done implication x (slice_index_or v.concepts x atomic)) self.old self.new }
     {
-        if let Concept::Restriction(r, b) = concept_at(terms, x) {
+        if let Concept::Restriction(r, b) = concept_at(self.terms, x) {
             if b == implication.left {
                 let partners = Partners::Links {
                     by: x,
                     right: implication.right,
                 };
-                self.draw_join(
-                    terms,
-                    pile,
-                    partners,
-                    Join {
-                        link: r,
-                        implication: implication.role,
-                        grade: implication.grade,
-                    },
-                );
+                self.draw_join(partners, Join {
+                    link: r,
+                    implication: implication.role,
+                    grade: implication.grade,
+                });
             }
         }
     }
 
     /// Draws all that an implication job draws.
-    pub(crate) fn draw_implication<P: Pile>(
-        &mut self,
-        terms: &Terms,
-        pile: &mut P,
-        implication: Implication,
-    )
-        requires ready { Ready (terms_of terms.now) P.Pile.numbers self.old pile.old }
-        requires right { implication.right < length (terms_of terms.now).concepts }
-        ensures { Drawn (terms_of terms.now) K.GradeKind.kind P.Pile.numbers (ByImplication (terms_of terms.now) K.GradeKind.kind (board_of self.old).done implication) self.old pile.old self.new pile.new }
+    pub(super) fn draw_implication(&mut self, implication: Implication)
+        requires { implication.right < self.old.board.now.counts.concepts }
+        ensures { SessionDrawn K.GradeKind.kind P.Pile.numbers (λ v. ByImplication v K.GradeKind.kind (board_of self.old.board.now).done implication) self.old self.new }
     {
-        for x in 0..terms.concepts().len() {
-            self.draw_filler(terms, pile, implication, x as u16);
+        for x in 0..self.terms.concepts().len() {
+            self.draw_filler(implication, x as u16);
         }
     }
 }

@@ -1,49 +1,51 @@
 //! Raising the found grade of a fact.
+ghost use Rattle.std.specs.Prelude.{◌≡◌};
 ghost use Rattle.terms.specs.Views.{terms_of};
-ghost use Rattle.reasoning.specs.Derivations.{Within};
+ghost use Rattle.reasoning.specs.Derivations.{Fits};
 ghost use Rattle.board.specs.Views.{moment_of};
 ghost use Rattle.board.specs.Frames.{Kept};
-ghost use Rattle.board.specs.Raises.{Called, Gains, Ready, Drawn};
+ghost use Rattle.board.specs.Raises.{Called, Gains};
+ghost use Rattle.board.specs.Sessions.{SessionDrawn};
 
-use super::OpenBoard;
+use super::session::Session;
 use super::states::Change;
 use crate::lookup::concept_at;
 use grades::kind::GradeKind;
 use piles::pile::Pile;
 use reasoning::Fact;
 use terms::records::Concept;
-use terms::terms::Terms;
 
-impl<'a, K: GradeKind> OpenBoard<'a, K> {
+impl<'w, 'a, 't, K: GradeKind, P: Pile> Session<'w, 'a, 't, K, P> {
     /// Queues the idle concepts at which a job of the fact stands.
-    fn call<P: Pile>(&mut self, terms: &Terms, pile: &mut P, fact: Fact)
-        requires ready { Ready (terms_of terms.now) P.Pile.numbers self.old pile.old }
-        requires within { Within (terms_of terms.now) fact }
-        ensures kept { Kept P.Pile.numbers self.old pile.old self.new pile.new }
-        ensures called { Called (terms_of terms.now) fact (moment_of P.Pile.numbers self.old pile.old) (moment_of P.Pile.numbers self.new pile.new) }
+    fn call(&mut self, fact: Fact)
+        requires { Fits self.old.board.now.counts.concepts self.old.board.now.counts.roles fact }
+        ensures board { self.new.board.ghost_name ≡ self.old.board.ghost_name }
+        ensures pile { self.new.pile.ghost_name ≡ self.old.pile.ghost_name }
+        ensures terms { self.new.terms.now ≡ self.old.terms.now }
+        ensures kept { Kept P.Pile.numbers self.old.board.now self.old.pile.now self.new.board.now self.new.pile.now }
+        ensures called { Called (terms_of self.old.terms.now) fact (moment_of P.Pile.numbers self.old.board.now self.old.pile.now) (moment_of P.Pile.numbers self.new.board.now self.new.pile.now) }
     {
         match fact {
             Fact::Under(c, d) => {
-                self.queue(pile, c, Change::Raise);
-                if let Concept::Restriction(_, b) = concept_at(terms, d) {
-                    self.queue(pile, b, Change::Raise);
+                self.board.queue(self.pile, c, Change::Raise);
+                if let Concept::Restriction(_, b) = concept_at(self.terms, d) {
+                    self.board.queue(self.pile, b, Change::Raise);
                 }
             }
-            Fact::Implies(_, c, _) => self.queue(pile, c, Change::Raise),
+            Fact::Implies(_, c, _) => self.board.queue(self.pile, c, Change::Raise),
         }
     }
 
     /// Joins `g` to the found grade of the fact and, where that changes it, queues the concepts that this gives work.
-    pub(crate) fn raise<P: Pile>(&mut self, terms: &Terms, pile: &mut P, fact: Fact, g: u16)
-        requires ready { Ready (terms_of terms.now) P.Pile.numbers self.old pile.old }
-        requires within { Within (terms_of terms.now) fact }
-        ensures { Drawn (terms_of terms.now) K.GradeKind.kind P.Pile.numbers (Gains K.GradeKind.kind fact g) self.old pile.old self.new pile.new }
+    pub(super) fn raise(&mut self, fact: Fact, g: u16)
+        requires { Fits self.old.board.now.counts.concepts self.old.board.now.counts.roles fact }
+        ensures { SessionDrawn K.GradeKind.kind P.Pile.numbers (λ _. Gains K.GradeKind.kind fact g) self.old self.new }
     {
-        let old = self.found(fact);
+        let old = self.board.found(fact);
         let new = K::join(old, g);
         if new != old {
-            self.write_found(fact, new);
-            self.call(terms, pile, fact);
+            self.board.write_found(fact, new);
+            self.call(fact);
         }
     }
 }

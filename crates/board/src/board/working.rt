@@ -1,18 +1,20 @@
 //! Doing a job.
 ghost use Rattle.std.specs.Prelude.{◌≡◌, ◌<◌, length, MatchOption};
 ghost use Rattle.terms.specs.Views.{terms_of};
-ghost use Rattle.reasoning.specs.Derivations.{Within, fact_of};
+ghost use Rattle.reasoning.specs.Derivations.{Fits, Within, fact_of};
 ghost use Rattle.saturation.specs.declared.State.TheVariants.{Held};
 ghost use Rattle.saturation.specs.Boards.{QuietAt};
 ghost use Rattle.board.specs.Views.{board_of, moment_of};
 ghost use Rattle.board.specs.Frames.{Kept};
 ghost use Rattle.board.specs.Raises.{Ready, Drawn};
 ghost use Rattle.board.specs.JoinDraws.{ByJob};
+ghost use Rattle.board.specs.Sessions.{SessionDrawn};
 ghost use Rattle.board.specs.Deeds.{Did};
 
 use super::OpenBoard;
 use super::joins::{Implication, Link};
 use super::own::Known;
+use super::session::Session;
 use crate::lookup::concept_at;
 use crate::reader::cells::fact_of;
 use grades::kind::GradeKind;
@@ -21,40 +23,47 @@ use reasoning::Job;
 use terms::records::Concept;
 use terms::terms::Terms;
 
+impl<'w, 'a, 't, K: GradeKind, P: Pile> Session<'w, 'a, 't, K, P> {
+    /// Draws all that a job draws, at the points of a grade.
+    fn draw_job(&mut self, job: Job, grade: u16)
+        requires { Fits self.old.board.now.counts.concepts self.old.board.now.counts.roles (fact_of job) }
+        ensures { SessionDrawn K.GradeKind.kind P.Pile.numbers (λ v. ByJob v K.GradeKind.kind (board_of self.old.board.now).done job grade) self.old self.new }
+    {
+        match job {
+            Job::Own(left, right) => self.draw_own(Known { left, right, grade }),
+            Job::Link(left, right) => {
+                if let Concept::Restriction(role, filler) = concept_at(self.terms, right) {
+                    self.draw_link(Link {
+                        left,
+                        role,
+                        filler,
+                        grade,
+                    });
+                }
+            }
+            Job::Imply(role, left, right) => self.draw_implication(Implication {
+                role,
+                left,
+                right,
+                grade,
+            }),
+        }
+    }
+}
+
 impl<'a, K: GradeKind> OpenBoard<'a, K> {
     /// Draws all that a job draws, at the points of a grade.
-    fn draw<P: Pile>(&mut self, terms: &Terms, pile: &mut P, job: Job, grade: u16)
+    fn draw<'w, P: Pile>(&'w mut self, terms: &'w Terms, pile: &'w mut P, job: Job, grade: u16)
         requires ready { Ready (terms_of terms.now) P.Pile.numbers self.old pile.old }
         requires within { Within (terms_of terms.now) (fact_of job) }
         ensures { Drawn (terms_of terms.now) K.GradeKind.kind P.Pile.numbers (ByJob (terms_of terms.now) K.GradeKind.kind (board_of self.old).done job grade) self.old pile.old self.new pile.new }
     {
-        match job {
-            Job::Own(left, right) => self.draw_own(terms, pile, Known { left, right, grade }),
-            Job::Link(left, right) => {
-                if let Concept::Restriction(role, filler) = concept_at(terms, right) {
-                    self.draw_link(
-                        terms,
-                        pile,
-                        Link {
-                            left,
-                            role,
-                            filler,
-                            grade,
-                        },
-                    );
-                }
-            }
-            Job::Imply(role, left, right) => self.draw_implication(
-                terms,
-                pile,
-                Implication {
-                    role,
-                    left,
-                    right,
-                    grade,
-                },
-            ),
-        }
+        let mut session = Session {
+            board: self,
+            terms,
+            pile,
+        };
+        session.draw_job(job, grade);
     }
 
     /// Does the first job that waits at `c`, which is held. The job is marked done before anything is drawn: a conjunction of a
@@ -66,9 +75,7 @@ impl<'a, K: GradeKind> OpenBoard<'a, K> {
         ensures kept { Kept P.Pile.numbers self.old pile.old self.new pile.new }
         ensures work { MatchOption result (QuietAt (terms_of terms.now) (board_of self.old) c × (self.new ≡ self.old) × (pile.new ≡ pile.old)) (λ j. Did (terms_of terms.now) K.GradeKind.kind c j (moment_of P.Pile.numbers self.old pile.old) (moment_of P.Pile.numbers self.new pile.new)) }
     {
-        let Some(job) = self.first(terms, c) else {
-            return None;
-        };
+        let job = self.first(terms, c)?;
         let grade = self.found(fact_of(job));
         self.write_done(job, grade);
         self.draw(terms, pile, job, grade);

@@ -22,18 +22,18 @@ fits v f e d w = subst₂ (λ n m. Fits n m f) (sym e) (sym d) w
 pub found-grade-requires : goal.found-grade-requires
 found-grade-requires g c =
     subst (λ f. Fits c.args.self.now.counts.concepts c.args.self.now.counts.roles f) (sym c.fact_of.ensures)
-    (fits (terms_of c.args.terms.now) (fact_of c.in-Some.job) c.requires.ready.concepts c.requires.ready.roles (at_within _ c.in-Some.ensures.at))
+    (fits (terms_of c.args.terms.now) (fact_of c.in_ok-job.job) c.requires.ready.concepts c.requires.ready.roles (at_within _ c.in_ok-job.ensures.at))
 
 pub write_done-requires : goal.write_done-requires
 write_done-requires g c =
-    fits (terms_of c.args.terms.now) (fact_of c.in-Some.job) (omega (arith, c.requires.ready.concepts)) (omega (arith, c.requires.ready.roles)) (at_within _ c.in-Some.ensures.at)
+    fits (terms_of c.args.terms.now) (fact_of c.in_ok-job.job) (omega (arith, c.requires.ready.concepts)) (omega (arith, c.requires.ready.roles)) (at_within _ c.in_ok-job.ensures.at)
 
 pub draw-requires : goal.draw-requires
 draw-requires g c =
     let R = c.requires.ready in
     record {
       ready = record { concepts = omega (arith, R.concepts); roles = omega (arith, R.roles); wide = omega (arith, R.wide) };
-      within = at_within _ c.in-Some.ensures.at;
+      within = at_within _ c.in_ok-job.ensures.at;
     }
 
 pub returns : goal.returns
@@ -47,8 +47,8 @@ returns g c =
     let m = c.write_done.new.self in
     let b = c.draw.new.self in
     let x = c.args.c in
-    let j = c.in-Some.job in
-    let F = c.in-Some.ensures in
+    let j = c.in_ok-job.job in
+    let F = c.in_ok-job.ensures in
     let w : Within v (fact_of j) = at_within _ F.at in
     let e : c.found-grade.result ≡ (board_of a).found (fact_of j) = c.found-grade.ensures ∙ ap (board_of a).found c.fact_of.ensures in
     let marked : Marked (length v.concepts) v.roles j ((board_of a).found (fact_of j)) (board_of a) (board_of m) =

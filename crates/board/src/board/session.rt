@@ -1,0 +1,19 @@
+//! A board at work, with the terms and the pile that go with it.
+ghost use Rattle.terms.specs.Views.{terms_of};
+ghost use Rattle.board.specs.Raises.{Ready};
+
+use super::OpenBoard;
+use piles::pile::Pile;
+use terms::terms::Terms;
+
+/// What drawing conclusions needs: the board that it writes to, the terms that the rules read, and the pile of what it queues.
+#[derive(Drop)]
+pub(crate) struct Session<'w, 'a, 't, K, P>
+where
+    P: Pile,
+{
+    pub(super) board: &'w mut OpenBoard<'a, K>,
+    pub(super) terms: &'w Terms<'t>,
+    pub(super) pile: &'w mut P,
+    ghost ready: { Ready (terms_of terms.now) P.Pile.numbers board.now pile.now },
+}
