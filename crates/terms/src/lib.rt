@@ -7,3 +7,4 @@ mod front;
 pub mod records;
 pub mod tally;
 pub mod terms;
+mod words;

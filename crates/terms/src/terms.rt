@@ -15,6 +15,7 @@ pub struct Terms<'a> {
     concepts: Front<'a, Concept>,
     inclusions: Front<'a, Inclusion>,
     role_count: usize,
+    // A row for each of the most roles there may be, 0 beyond the count: the library asks for no heap.
     order: [u32; 32],
     transitive: u32,
     ghost fits: { (concepts.count ≤ 1024) × (inclusions.count ≤ 4096) × (role_count ≤ 32) },

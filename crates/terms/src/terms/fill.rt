@@ -12,6 +12,7 @@ use crate::entry::Entry;
 use crate::front::Front;
 use crate::records::{Concept, Inclusion};
 use crate::tally::{Room, Tally};
+use crate::words::has_bit;
 
 impl<'a> Terms<'a> {
     /// The empty vocabulary over two lists, whose entries stay as they are.
@@ -69,8 +70,7 @@ impl<'a> Terms<'a> {
             Entry::Inclusion(i) => self.inclusions.push(i),
         }
     }
-
-    // What is below the role r is now below what is above s.
+    // What is below r is now below what is above s. A loop, since the goals on the new rows stayed open with `map`.
     fn put_order(&mut self, r: u16, s: u16)
         requires { Allowed (tally_of self.old) (Stated.Order r s) }
         ensures { Added (Stated.Order r s) self.old self.new }
@@ -84,8 +84,11 @@ impl<'a> Terms<'a> {
 
 // A row that has the role r takes the row `up` too.
 fn climb(row: u32, r: u16, up: u32) -> u32
-    requires { r < 32 }
     ensures { result ≡ climbed r up row }
 {
-    if (row >> r) % 2 == 1 { row | up } else { row }
+    if has_bit(row, usize::from(r)) {
+        row | up
+    } else {
+        row
+    }
 }
