@@ -25,11 +25,16 @@ returns-then-point-points-clause-answer g c =
     let i = named_is (terms_of c.args.terms.now) c.args.a (sym c.if-not-is_named.ensures) in
     no_point refl s i (subst (λ (m : ℕ). m ≤ c.args.point) c.points.ensures c.if-point-points.true)
 
+pub invariant_of-board : goal.invariant_of-board
+invariant_of-board g c =
+    let s = settled_of c.in_ok-settled.was c.settled.ensures in
+    record { concepts = c.reader.ensures.concepts ∙ s.0.0; roles = c.reader.ensures.roles ∙ s.0.1 }
+
 pub invariant_of-asked : goal.invariant_of-asked
 invariant_of-asked g c =
     let s = settled_of c.in_ok-settled.was c.settled.ensures in
     let i = named_is (terms_of c.args.terms.now) c.args.a (sym c.if-not-is_named.ensures) in
-    record { same = c.reader.ensures.concepts ∙ s.0.0; within = omega (arith, i.0, s.0.0, c.reader.ensures.concepts) }
+    omega (arith, i.0, s.0.0, c.reader.ensures.concepts)
 
 pub returns-then-count-list-clause-answer : goal.returns-then-count-list-clause-answer
 returns-then-count-list-clause-answer g c =
