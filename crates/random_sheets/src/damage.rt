@@ -1,6 +1,6 @@
 //! Sheets with one thing changed, mostly to something wrong.
-use crate::generator::{Random, WIDTH};
-use reference::six_columns;
+use crate::generator::Random;
+use reference::{WIDTH, six_columns};
 use std::alloc::{AllocError, Global};
 use std::ops::Range;
 

@@ -1,11 +1,8 @@
 //! Random numbers from a seed, and random sheets.
 ghost use Rattle.std.specs.Prelude.{◌<◌, length, Contains};
 
-use reference::push_line;
+use reference::{WIDTH, push_line};
 use std::alloc::{AllocError, Global};
-
-/// The bytes of a line.
-pub const WIDTH: usize = 20;
 
 /// A sequence of numbers that looks random and is the same for the same seed.
 #[derive(Clone, Copy)]

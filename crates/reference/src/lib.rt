@@ -17,7 +17,7 @@ pub use answers::AtPoint;
 pub use columns::{padded, push_line, six_columns};
 pub use faults::{Fault, Layer, Reason};
 pub use kinds::Kind;
-pub use lines::{Concept, Inclusion};
+pub use lines::{Concept, Inclusion, WIDTH};
 pub use listing::expected_output;
 pub use rounds::{Table, saturate};
 pub use sheets::first_fault;

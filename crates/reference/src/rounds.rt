@@ -148,43 +148,40 @@ impl Saturation<'_> {
         }
     }
 
-    /// Gives each concept under the restriction what its filler implies through the role s, as a fact of the two.
+    /// The points at which the left concept implies the right one through a role above the role.
+    fn implied(&self, role: usize, left: usize, right: usize) -> u64 {
+        let above = self.vocabulary.above(role);
+        (0..self.table.roles)
+            .filter(|s| has(above, *s))
+            .fold(0, |points, s| points | self.table.implies(s, left, right))
+    }
+
+    /// Gives each concept under the restriction what its filler implies through a role above the given one, as a fact of the two.
     fn pass<F: Fn(usize, usize) -> Fact>(
         &mut self,
         restriction: usize,
         filler: usize,
-        s: usize,
+        role: usize,
         fact: F,
     )
         requires { F.IsAlwaysCallable fact }
     {
-        for d in 0..self.table.concepts {
-            let points = self.table.under(d, restriction);
-            for e in 0..self.table.concepts {
-                let implied = self.table.implies(s, filler, e);
-                self.table.derive(fact(d, e), points & implied);
+        for e in 0..self.table.concepts {
+            let implied = self.implied(role, filler, e);
+            for d in 0..self.table.concepts {
+                let points = self.table.under(d, restriction) & implied;
+                self.table.derive(fact(d, e), points);
             }
         }
     }
 
-    /// What comes along a restriction of the role: what its filler implies through a role above lies above what is under the restriction.
-    fn along(&mut self, restriction: usize, role: usize, filler: usize) {
-        let above = self.vocabulary.above(role);
-        for s in (0..self.table.roles).filter(|s| has(above, *s)) {
-            self.pass(restriction, filler, s, Fact::Under);
-        }
-        let transitive = above & self.vocabulary.transitive;
+    /// What comes along a restriction of the role. What its filler implies through a role above that one lies above what is under the
+    /// restriction; what it implies through a role above a transitive one between, this implies through the transitive one.
+    fn along(&mut self, restriction: usize, filler: usize, role: usize) {
+        self.pass(restriction, filler, role, Fact::Under);
+        let transitive = self.vocabulary.above(role) & self.vocabulary.transitive;
         for t in (0..self.table.roles).filter(|t| has(transitive, *t)) {
-            self.along_transitive(restriction, t, filler);
-        }
-    }
-
-    /// What comes along a restriction by a transitive role t above its role: what its filler implies through a role above t is implied through
-    /// t by what is under the restriction.
-    fn along_transitive(&mut self, restriction: usize, t: usize, filler: usize) {
-        let above = self.vocabulary.above(t);
-        for s in (0..self.table.roles).filter(|s| has(above, *s)) {
-            self.pass(restriction, filler, s, |d, e| Fact::Implies(t, d, e));
+            self.pass(restriction, filler, t, |d, e| Fact::Implies(t, d, e));
         }
     }
 
@@ -194,7 +191,7 @@ impl Saturation<'_> {
             self.give(number, concept, c);
         }
         if let Concept::Restriction(role, filler) = concept {
-            self.along(number, role, filler);
+            self.along(number, filler, role);
         }
     }
 

@@ -5,10 +5,11 @@
 mod tests {
     use random_sheets::{Random, Size, damaged, random_sheet};
     use reference::{
-        Fault, Kind, Vocabulary, code, expected_output, first_fault, mates, padded, parents,
-        push_line, read, saturate,
+        AtPoint, Fault, Kind, Layer, Reason, Unread, Vocabulary, expected_output, first_fault,
+        padded, push_line, read, saturate,
     };
     use std::alloc::{AllocError, Global};
+    use std::iter;
     use std::test::Fail;
 
     // Sheets, whose lines may be short, and what is printed for them.
@@ -49,11 +50,9 @@ mod tests {
     // A sheet of so many atomic concepts and roles.
     fn bare(heap: Global, concepts: usize, roles: usize) -> Result<Vec<u8>, AllocError> {
         let mut text = Vec::new(heap);
-        for _ in 0..concepts {
-            push_line(&mut text, b"A", [0, 0, 0], 0)?;
-        }
-        for _ in 0..roles {
-            push_line(&mut text, b"R", [0, 0, 0], 0)?;
+        let letters = iter::repeat_n(b'A', concepts).chain(iter::repeat_n(b'R', roles));
+        for letter in letters {
+            push_line(&mut text, &[letter], &[])?;
         }
         Ok(text)
     }
@@ -77,28 +76,27 @@ mod tests {
         let heap = rt.alloc();
         assert!(rt; first_fault(&bare(heap, 1024, 32)?, 2000, 5000).is_none());
         let beyond = Fault {
-            layer: 2,
-            number: 6,
+            layer: Layer::Sheet,
+            reason: Reason::BeyondLimit,
             line: 1025,
             column: 1,
         };
         assert!(rt; first_fault(&bare(heap, 1025, 0)?, 2000, 5000) == Some(beyond));
+        assert!(rt; beyond.number() == 6);
         let feedless = Fault {
-            layer: 1,
-            number: 4,
+            layer: Layer::Line,
+            reason: Reason::NoLineFeed,
             line: 1,
             column: 20,
         };
         assert!(rt; first_fault(b"A                  A", 40, 200) == Some(feedless));
+        assert!(rt; feedless.number() == 4);
         Ok(())
     }
 
     // The vocabulary of the sheet, whose lines may be short.
-    fn vocabulary(heap: Global, sheet: &[u8]) -> Result<Vocabulary, Fail> {
-        match read(heap, &padded(heap, sheet)?, 1024, 4096)? {
-            Ok(vocabulary) => Ok(vocabulary),
-            Err(_) => Err(Fail::new("a fault")),
-        }
+    fn vocabulary(heap: Global, sheet: &[u8]) -> Result<Vocabulary, Unread> {
+        read(heap, &padded(heap, sheet)?, 1024, 4096)
     }
 
     #[test]
@@ -106,10 +104,10 @@ mod tests {
         let heap = rt.alloc();
         let twice = vocabulary(heap, b"A\nN     0     0\n")?;
         let table = saturate(heap, &twice, Kind::Releases)?;
-        assert!(rt; code(Kind::Releases, table.under(0, 1)) == Some(0));
+        assert!(rt; Kind::Releases.code(table.under(0, 1)) == Some(0));
         let views = vocabulary(heap, b"A\nA\nA\nS     0     1     5\nS     1     2     6\n")?;
         let table = saturate(heap, &views, Kind::Views)?;
-        assert!(rt; code(Kind::Views, table.under(0, 2)) == Some(4));
+        assert!(rt; Kind::Views.code(table.under(0, 2)) == Some(4));
         Ok(())
     }
 
@@ -119,12 +117,22 @@ mod tests {
         let child = vocabulary(heap, b"A\nA\nS     0     1     1\n")?;
         let table = saturate(heap, &child, Kind::Plain)?;
         assert!(rt; table.job_points(&child) == 3);
-        assert!(rt; mates(heap, &table, &child, 0, 0)?.is_empty());
-        assert!(rt; parents(heap, &table, &child, 0, 0)?.as_slice() == [1].as_slice());
+        let at = AtPoint {
+            table: &table,
+            vocabulary: &child,
+            point: 0,
+        };
+        assert!(rt; at.mates(heap, 0)?.is_empty());
+        assert!(rt; at.parents(heap, 0)?.as_slice() == [1].as_slice());
         let mate = vocabulary(heap, b"A\nA\nS     0     1     1\nS     1     0     1\n")?;
         let table = saturate(heap, &mate, Kind::Plain)?;
-        assert!(rt; mates(heap, &table, &mate, 0, 0)?.as_slice() == [1].as_slice());
-        assert!(rt; parents(heap, &table, &mate, 0, 0)?.is_empty());
+        let at = AtPoint {
+            table: &table,
+            vocabulary: &mate,
+            point: 0,
+        };
+        assert!(rt; at.mates(heap, 0)?.as_slice() == [1].as_slice());
+        assert!(rt; at.parents(heap, 0)?.is_empty());
         Ok(())
     }
 
