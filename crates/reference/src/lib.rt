@@ -20,5 +20,5 @@ pub use kinds::Kind;
 pub use lines::{Concept, Inclusion, WIDTH};
 pub use listing::expected_output;
 pub use rounds::{Table, saturate};
-pub use sheets::first_fault;
+pub use sheets::{Room, first_fault};
 pub use vocabularies::{Unread, Vocabulary, read};

@@ -3,6 +3,7 @@ use crate::columns::push_line;
 use crate::faults::{Fault, Layer, Reason};
 use crate::kinds::Kind;
 use crate::rounds::{Table, saturate};
+use crate::sheets::Room;
 use crate::vocabularies::{Unread, Vocabulary, read};
 use std::alloc::{AllocError, Global};
 
@@ -10,9 +11,10 @@ use std::alloc::{AllocError, Global};
 const MOST_BYTES: usize = 4000;
 
 /// The concepts and inclusions that its lists have room for.
-const MOST_CONCEPTS: usize = 40;
-
-const MOST_INCLUSIONS: usize = 200;
+const ROOM: Room = Room {
+    concepts: 40,
+    inclusions: 200,
+};
 
 /// The words of its board.
 const WORDS: usize = 17640;
@@ -98,7 +100,7 @@ fn listing(heap: Global, text: &[u8]) -> Result<Vec<u8>, Unlisted> {
     if text.len() > MOST_BYTES {
         return Err(Unlisted::Fault(TOO_LONG));
     }
-    let vocabulary = read(heap, text, MOST_CONCEPTS, MOST_INCLUSIONS)?;
+    let vocabulary = read(heap, text, ROOM)?;
     check_board(&vocabulary)?;
     let table = saturate(heap, &vocabulary, Kind::Releases)?;
     let mut output = Vec::new(heap);

@@ -2,7 +2,14 @@
 use crate::faults::{Fault, Layer, Reason};
 use crate::lines::{Concept, Entry, FIELD_COLUMNS, Inclusion, Line, WIDTH};
 
-/// The most concepts, roles and inclusions of any sheet, however long the lists.
+/// How many concepts and inclusions a reader has room for.
+#[derive(Clone, Copy)]
+pub struct Room {
+    pub concepts: usize,
+    pub inclusions: usize,
+}
+
+/// The most concepts, roles and inclusions of any sheet, however much room there is.
 const MOST: Counts = Counts {
     concepts: 1024,
     roles: 32,
@@ -79,8 +86,8 @@ impl Counts {
     }
 }
 
-/// Whether the text is a sheet for lists of these lengths.
-pub fn check(text: &[u8], most_concepts: usize, most_inclusions: usize) -> Result<(), Fault> {
+/// Whether the text is a sheet that fits the room.
+pub fn check(text: &[u8], room: Room) -> Result<(), Fault> {
     let (lines, rest) = text.as_chunks::<WIDTH>();
     if !rest.is_empty() {
         return Err(Fault {
@@ -91,9 +98,9 @@ pub fn check(text: &[u8], most_concepts: usize, most_inclusions: usize) -> Resul
         });
     }
     let most = Counts {
-        concepts: most_concepts.min(MOST.concepts),
+        concepts: room.concepts.min(MOST.concepts),
         roles: MOST.roles,
-        inclusions: most_inclusions.min(MOST.inclusions),
+        inclusions: room.inclusions.min(MOST.inclusions),
     };
     let mut above = Counts::default();
     for (place, columns) in lines.iter().enumerate() {
@@ -103,7 +110,7 @@ pub fn check(text: &[u8], most_concepts: usize, most_inclusions: usize) -> Resul
     Ok(())
 }
 
-/// The first fault of the text, for lists of these lengths.
-pub fn first_fault(text: &[u8], most_concepts: usize, most_inclusions: usize) -> Option<Fault> {
-    check(text, most_concepts, most_inclusions).err()
+/// The first fault of the text, for a reader with the room.
+pub fn first_fault(text: &[u8], room: Room) -> Option<Fault> {
+    check(text, room).err()
 }

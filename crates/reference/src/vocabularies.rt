@@ -1,7 +1,7 @@
 //! A vocabulary in plain lists, and its reading from a sheet.
 use crate::faults::Fault;
 use crate::lines::{Concept, Entry, Inclusion, Line, WIDTH};
-use crate::sheets::check;
+use crate::sheets::{Room, check};
 use std::alloc::{AllocError, Global};
 
 /// Concepts, inclusions and roles. Bit s of `above[r]` says r ≤ s; bit r of `transitive` says that r is transitive.
@@ -86,14 +86,9 @@ impl Vocabulary {
     }
 }
 
-/// The vocabulary that the text says, for lists of these lengths.
-pub fn read(
-    heap: Global,
-    text: &[u8],
-    most_concepts: usize,
-    most_inclusions: usize,
-) -> Result<Vocabulary, Unread> {
-    check(text, most_concepts, most_inclusions)?;
+/// The vocabulary that the text says, for a reader with the room.
+pub fn read(heap: Global, text: &[u8], room: Room) -> Result<Vocabulary, Unread> {
+    check(text, room)?;
     let mut vocabulary = Vocabulary {
         concepts: Vec::new(heap),
         inclusions: Vec::new(heap),

@@ -5,8 +5,8 @@
 mod tests {
     use random_sheets::{Random, Size, damaged, random_sheet};
     use reference::{
-        AtPoint, Fault, Kind, Layer, Reason, Unread, Vocabulary, expected_output, first_fault,
-        padded, push_line, read, saturate,
+        AtPoint, Fault, Kind, Layer, Reason, Room, Unread, Vocabulary, expected_output,
+        first_fault, padded, push_line, read, saturate,
     };
     use std::alloc::{AllocError, Global};
     use std::iter;
@@ -47,6 +47,22 @@ mod tests {
         (1, 200, b"!     6   201     1\n"),
     ];
 
+    // Room for what the program reads, for what any sheet has at most, and for more.
+    const USUAL: Room = Room {
+        concepts: 40,
+        inclusions: 200,
+    };
+
+    const LIMITS: Room = Room {
+        concepts: 1024,
+        inclusions: 4096,
+    };
+
+    const BEYOND_LIMITS: Room = Room {
+        concepts: 2000,
+        inclusions: 5000,
+    };
+
     // A sheet of so many atomic concepts and roles.
     fn bare(heap: Global, concepts: usize, roles: usize) -> Result<Vec<u8>, AllocError> {
         let mut text = Vec::new(heap);
@@ -74,14 +90,14 @@ mod tests {
     #[test]
     fn faults(rt: HostRuntime) -> Result<(), Fail> {
         let heap = rt.alloc();
-        assert!(rt; first_fault(&bare(heap, 1024, 32)?, 2000, 5000).is_none());
+        assert!(rt; first_fault(&bare(heap, 1024, 32)?, BEYOND_LIMITS).is_none());
         let beyond = Fault {
             layer: Layer::Sheet,
             reason: Reason::BeyondLimit,
             line: 1025,
             column: 1,
         };
-        assert!(rt; first_fault(&bare(heap, 1025, 0)?, 2000, 5000) == Some(beyond));
+        assert!(rt; first_fault(&bare(heap, 1025, 0)?, BEYOND_LIMITS) == Some(beyond));
         assert!(rt; beyond.number() == 6);
         let feedless = Fault {
             layer: Layer::Line,
@@ -89,14 +105,14 @@ mod tests {
             line: 1,
             column: 20,
         };
-        assert!(rt; first_fault(b"A                  A", 40, 200) == Some(feedless));
+        assert!(rt; first_fault(b"A                  A", USUAL) == Some(feedless));
         assert!(rt; feedless.number() == 4);
         Ok(())
     }
 
     // The vocabulary of the sheet, whose lines may be short.
     fn vocabulary(heap: Global, sheet: &[u8]) -> Result<Vocabulary, Unread> {
-        read(heap, &padded(heap, sheet)?, 1024, 4096)
+        read(heap, &padded(heap, sheet)?, LIMITS)
     }
 
     #[test]
@@ -148,9 +164,13 @@ mod tests {
                 inclusions: concepts,
                 most_code: 64,
             };
+            let room = Room {
+                concepts,
+                inclusions: concepts,
+            };
             let sheet = random_sheet(heap, &mut random, size)?;
-            assert!(rt; first_fault(&sheet, concepts, concepts).is_none());
-            if first_fault(&damaged(heap, &mut random, &sheet)?, concepts, concepts).is_some() {
+            assert!(rt; first_fault(&sheet, room).is_none());
+            if first_fault(&damaged(heap, &mut random, &sheet)?, room).is_some() {
                 faulty = faulty.saturating_add(1);
             }
         }

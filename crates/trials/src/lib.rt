@@ -5,7 +5,7 @@
 mod tests {
     use listing::text::{PAGE, list};
     use random_sheets::{Random, Size, damaged, random_sheet};
-    use reference::{expected_output, first_fault};
+    use reference::{Room, expected_output, first_fault};
     use sheet::fault::Layer;
     use sheet::read;
     use std::alloc::{AllocError, Global};
@@ -17,6 +17,11 @@ mod tests {
     const CONCEPTS: usize = 40;
 
     const INCLUSIONS: usize = 200;
+
+    const ROOM: Room = Room {
+        concepts: CONCEPTS,
+        inclusions: INCLUSIONS,
+    };
 
     // Whether the library answers for a text what the other classifier expects, byte by byte.
     fn agrees(heap: Global, text: &[u8], page: &mut [u8; PAGE]) -> Result<bool, AllocError> {
@@ -151,10 +156,7 @@ mod tests {
             let sheet = random_sheet(rt.alloc(), &mut random, size)?;
             let broken = damaged(rt.alloc(), &mut random, sheet.as_slice())?;
             let fault = fault_of(&broken);
-            assert_eq!(rt;
-                fault,
-                first_fault(&broken, CONCEPTS, INCLUSIONS).map(Known::from)
-            );
+            assert_eq!(rt; fault, first_fault(&broken, ROOM).map(Known::from));
             if let Some(fault) = fault {
                 met.add(fault.layer);
             }

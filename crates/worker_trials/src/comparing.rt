@@ -4,9 +4,15 @@ use crate::trial::CONCEPTS;
 use crate::trouble::Trouble;
 use board::closed::ClosedBoard;
 use grades::kind::GradeKind;
-use reference::{AtPoint, Kind, Table, Vocabulary, saturate};
+use reference::{AtPoint, Kind, Room, Table, Vocabulary, saturate};
 use std::alloc::Global;
 use terms::terms::Terms;
+
+/// The concepts and inclusions that the other classifier has room for.
+const ROOM: Room = Room {
+    concepts: 1024,
+    inclusions: 4096,
+};
 
 /// What the other classifier says of a sheet.
 #[derive(Drop)]
@@ -19,7 +25,7 @@ pub struct Truth {
 impl Truth {
     /// What it says of the text.
     pub fn of(heap: Global, text: &[u8], kind: Kind) -> Result<Truth, Trouble> {
-        let vocabulary = reference::read(heap, text, 1024, 4096)?;
+        let vocabulary = reference::read(heap, text, ROOM)?;
         let table = saturate(heap, &vocabulary, kind)?;
         Ok(Truth {
             vocabulary,
