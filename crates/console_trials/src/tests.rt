@@ -42,10 +42,10 @@ fn check_written(
 fn long_sheet(heap: Global, inclusions: usize) -> Result<Vec<u8>, AllocError> {
     let mut text = Vec::new(heap);
     for _ in 0..40usize {
-        push_line(&mut text, b"A", [0, 0, 0], 0)?;
+        push_line(&mut text, b"A", &[])?;
     }
     for _ in 0..inclusions {
-        push_line(&mut text, b"S", [0, 0, 0], 3)?;
+        push_line(&mut text, b"S", &[0, 0, 0])?;
     }
     Ok(text)
 }

@@ -1,9 +1,8 @@
 //! Random numbers from a seed, and random sheets.
-use reference::push_line;
-use std::alloc::{AllocError, Global};
+ghost use Rattle.std.specs.Prelude.{◌<◌, length, Contains};
 
-/// The bytes of a line.
-pub const WIDTH: usize = 20;
+use reference::{WIDTH, push_line};
+use std::alloc::{AllocError, Global};
 
 /// A sequence of numbers that looks random and is the same for the same seed.
 #[derive(Clone, Copy)]
@@ -27,7 +26,9 @@ impl Random {
     }
 
     /// The next number below the bound, or 0 if the bound is 0.
-    pub fn below(&mut self, bound: usize) -> usize {
+    pub fn below(&mut self, bound: usize) -> usize
+        ensures { 0 < bound → result < bound }
+    {
         if bound == 0 {
             return 0;
         }
@@ -37,6 +38,14 @@ impl Random {
     /// True once in so many times.
     pub fn once_in(&mut self, times: usize) -> bool {
         self.below(times) == 0
+    }
+
+    /// Some member of the list.
+    pub fn pick<T: Copy>(&mut self, list: &[T]) -> T
+        requires { 0 < length list.now }
+        ensures { Contains list.now result }
+    {
+        list[self.below(list.len())]
     }
 }
 
@@ -49,228 +58,243 @@ pub struct Size {
     pub most_code: u16,
 }
 
-/// What is written at a time.
-#[derive(Clone, Copy)]
-enum Step {
-    Role,
-    RoleOrder,
-    Concept,
-    Chain,
-    Inclusion,
-}
+/// The letters of the lines that add a concept.
+const CONCEPTS: &[u8] = b"ATNE";
 
-/// How many lines of the sheet have one of the letters.
-fn count(sheet: &[u8], letters: &[u8]) -> usize {
-    let mut found = 0usize;
-    for line in sheet.chunks(WIDTH) {
-        if let [letter, ..] = line
-            && letters.contains(letter)
-        {
-            found = found.saturating_add(1);
-        }
-    }
-    found
-}
-
-/// How many concepts the sheet has.
-fn concepts(sheet: &[u8]) -> usize {
-    count(sheet, b"ATNE")
-}
-
-/// The letter of the concept.
-fn letter_of(sheet: &[u8], concept: usize) -> u8 {
-    let mut above = 0usize;
-    for line in sheet.chunks(WIDTH) {
-        if let [letter, ..] = line
-            && b"ATNE".contains(letter)
-        {
-            if above == concept {
-                return *letter;
-            }
-            above = above.saturating_add(1);
-        }
-    }
-    0
-}
-
-/// Some concept, rather one with this letter.
-fn like(sheet: &[u8], random: &mut Random, letter: u8) -> usize {
-    let mut concept = random.below(concepts(sheet));
-    for _ in 0..8u8 {
-        if letter_of(sheet, concept) == letter {
-            break;
-        }
-        concept = random.below(concepts(sheet));
-    }
-    concept
-}
-
-/// Adds a role's transitivity, or a pair of the order, mostly from the lower number to the higher.
-fn add_role_order(sheet: &mut Vec<u8>, random: &mut Random) -> Result<(), AllocError> {
-    let roles = count(sheet, b"R");
-    let r = random.below(roles);
-    let s = random.below(roles);
-    match random.below(8) {
-        0..=3 => push_line(sheet, b"P", [r, 0, 0], 1),
-        4 => push_line(sheet, b"I", [r, s, 0], 2),
-        _ => push_line(sheet, b"I", [r.min(s), r.max(s), 0], 2),
-    }
-}
-
-/// Adds a concept: atomic or top, or made of earlier ones, once in a while of one concept twice.
-fn add_concept(sheet: &mut Vec<u8>, random: &mut Random) -> Result<(), AllocError> {
-    let earlier = concepts(sheet);
-    let roles = count(sheet, b"R");
-    let x = random.below(earlier);
-    let y = if random.once_in(4) {
-        x
-    } else {
-        random.below(earlier)
-    };
-    match random.below(20) {
-        0 => push_line(sheet, b"T", [0, 0, 0], 0),
-        1..=4 if earlier > 0 => push_line(sheet, b"N", [x, y, 0], 2),
-        5..=9 if earlier > 0 && roles > 0 => push_line(sheet, b"E", [random.below(roles), y, 0], 2),
-        _ => push_line(sheet, b"A", [0, 0, 0], 0),
-    }
-}
-
-/// Adds an inclusion with some code: once in a while a low one or the greatest.
-fn include(
-    sheet: &mut Vec<u8>,
-    random: &mut Random,
-    left: usize,
-    right: usize,
-    most_code: u16,
-) -> Result<(), AllocError> {
-    let most = usize::from(most_code);
-    let code = match random.below(8) {
-        0..=2 => random.below(4).min(most),
-        3 => most,
-        _ => random.below(most + 1),
-    };
-    push_line(sheet, b"S", [left, right, code], 3)
-}
-
-/// Adds an inclusion: into or out of a restriction, out of a conjunction or of any concept; if asked to, one that leads back too.
-fn add_inclusion(
-    sheet: &mut Vec<u8>,
-    random: &mut Random,
-    most_code: u16,
-    both_ways: bool,
-) -> Result<(), AllocError> {
-    let atomic = like(sheet, random, b'A');
-    let restriction = like(sheet, random, b'E');
-    let any = random.below(concepts(sheet));
-    let (left, right) = match random.below(12) {
-        0..=3 => (atomic, restriction),
-        4..=7 => (restriction, atomic),
-        8..=9 => (like(sheet, random, b'N'), any),
-        _ => (any, random.below(concepts(sheet))),
-    };
-    if both_ways {
-        include(sheet, random, right, left, most_code)?;
-    }
-    include(sheet, random, left, right, most_code)
-}
-
-/// Adds an atomic concept and a restriction to the given one, and an inclusion of the one in the other.
-fn add_link(
-    sheet: &mut Vec<u8>,
-    random: &mut Random,
-    filler: usize,
-    upwards: bool,
-    most_code: u16,
-) -> Result<(), AllocError> {
-    let atomic = concepts(sheet);
-    let restriction = atomic.saturating_add(1);
-    let role = random.below(count(sheet, b"R"));
-    push_line(sheet, b"A", [0, 0, 0], 0)?;
-    push_line(sheet, b"E", [role, filler, 0], 2)?;
-    if upwards {
-        include(sheet, random, atomic, restriction, most_code)
-    } else {
-        include(sheet, random, restriction, atomic, most_code)
-    }
-}
-
-/// Adds a chain: a few concepts, each inside a restriction to the one before, and a restriction to the first inside another concept, which
-/// shows what comes along the chain.
-fn add_chain(sheet: &mut Vec<u8>, random: &mut Random, most_code: u16) -> Result<(), AllocError> {
-    let first = random.below(concepts(sheet));
-    let mut reached = first;
-    for _ in 0..random.below(3).saturating_add(1) {
-        let next = concepts(sheet);
-        add_link(sheet, random, reached, true, most_code)?;
-        reached = next;
-    }
-    add_link(sheet, random, first, false, most_code)
-}
-
-/// Adds what the step says; nothing where it would have nothing to name or the sheet might be too large.
-fn add(sheet: &mut Vec<u8>, random: &mut Random, step: Step, size: Size) -> Result<(), AllocError> {
-    let named = concepts(sheet);
-    let roles = count(sheet, b"R");
-    let room = size.concepts.saturating_sub(named);
-    let places = size.inclusions.saturating_sub(count(sheet, b"S"));
-    match step {
-        Step::Role if roles < size.roles => push_line(sheet, b"R", [0, 0, 0], 0),
-        Step::RoleOrder if count(sheet, b"IP") / 3 < roles => add_role_order(sheet, random),
-        Step::Concept if room > 0 => add_concept(sheet, random),
-        Step::Chain if named > 0 && roles > 0 && room >= 8 && places >= 4 => add_chain(
-            sheet,
-            random,
-            size.most_code,
-        ),
-        Step::Inclusion if named > 0 && places > 0 => {
-            let both_ways = places > 1 && random.once_in(10);
-            add_inclusion(sheet, random, size.most_code, both_ways)
-        }
-        _ => Ok(()),
-    }
-}
-
-/// Adds the step so many times.
-fn repeat(
-    sheet: &mut Vec<u8>,
-    random: &mut Random,
-    step: Step,
-    times: usize,
+/// A sheet that is being written, with the numbers that it is drawn by.
+#[derive(Drop)]
+struct Draft {
+    text: Vec<u8>,
+    random: Random,
     size: Size,
-) -> Result<(), AllocError> {
-    for _ in 0..times {
-        add(sheet, random, step, size)?;
-    }
-    Ok(())
 }
 
-/// Some step.
-fn some_step(random: &mut Random) -> Step {
-    match random.below(12) {
-        0..=1 => Step::Role,
-        2..=3 => Step::RoleOrder,
-        4..=7 => Step::Concept,
-        8 => Step::Chain,
-        _ => Step::Inclusion,
+impl Draft {
+    /// How many lines have one of the letters.
+    fn count(&self, letters: &[u8]) -> usize {
+        self.text
+            .chunks(WIDTH)
+            .filter(|line| begins(line, letters))
+            .count()
     }
-}
 
-/// A random sheet of at most the size, without a fault where the size keeps the limits: roles, their order, concepts, a chain, inclusions.
-/// Half of the sheets begin with all this in any order.
-pub fn random_sheet(heap: Global, random: &mut Random, size: Size) -> Result<Vec<u8>, AllocError> {
-    let mut sheet = Vec::new(heap);
-    if random.once_in(2) {
-        for _ in 0..random.below(size.concepts) {
-            let step = some_step(random);
-            add(&mut sheet, random, step, size)?;
+    /// How many concepts there are.
+    fn concepts(&self) -> usize {
+        self.count(CONCEPTS)
+    }
+
+    /// How many roles there are.
+    fn roles(&self) -> usize {
+        self.count(b"R")
+    }
+
+    /// How many inclusions may still be added.
+    fn places(&self) -> usize {
+        self.size.inclusions.saturating_sub(self.count(b"S"))
+    }
+
+    /// How many concepts may still be added.
+    fn room(&self) -> usize {
+        self.size.concepts.saturating_sub(self.concepts())
+    }
+
+    /// Whether the concept's line has the letter.
+    fn is_made_by(&self, concept: usize, letter: u8) -> bool {
+        self.text
+            .chunks(WIDTH)
+            .filter(|line| begins(line, CONCEPTS))
+            .nth(concept)
+            .is_some_and(|line| begins(line, &[letter]))
+    }
+
+    /// Adds a line.
+    fn push(&mut self, letter: &[u8], numbers: &[usize]) -> Result<(), AllocError> {
+        push_line(&mut self.text, letter, numbers)
+    }
+
+    /// Some concept.
+    fn some_concept(&mut self) -> usize {
+        let concepts = self.concepts();
+        self.random.below(concepts)
+    }
+
+    /// Some role.
+    fn some_role(&mut self) -> usize {
+        let roles = self.roles();
+        self.random.below(roles)
+    }
+
+    /// Some concept, rather one with this letter.
+    fn like(&mut self, letter: u8) -> usize {
+        for _ in 0..8u8 {
+            let concept = self.some_concept();
+            if self.is_made_by(concept, letter) {
+                return concept;
+            }
+        }
+        self.some_concept()
+    }
+
+    /// Adds a role, if there may be one more.
+    fn add_role(&mut self) -> Result<(), AllocError> {
+        if self.roles() < self.size.roles {
+            self.push(b"R", &[])?;
+        }
+        Ok(())
+    }
+
+    /// Adds a role's transitivity, or a pair of the order, mostly from the lower number to the higher, if there are not too many of these.
+    fn add_role_order(&mut self) -> Result<(), AllocError> {
+        if self.count(b"IP") / 3 >= self.roles() {
+            return Ok(());
+        }
+        let r = self.some_role();
+        let s = self.some_role();
+        match self.random.below(8) {
+            0..=3 => self.push(b"P", &[r]),
+            4 => self.push(b"I", &[r, s]),
+            _ => self.push(b"I", &[r.min(s), r.max(s)]),
         }
     }
-    let order = random.below(size.roles.saturating_mul(3)).saturating_add(1);
-    repeat(&mut sheet, random, Step::Role, size.roles, size)?;
-    repeat(&mut sheet, random, Step::RoleOrder, order, size)?;
-    repeat(&mut sheet, random, Step::Concept, size.concepts / 2, size)?;
-    repeat(&mut sheet, random, Step::Chain, 1, size)?;
-    repeat(&mut sheet, random, Step::Concept, size.concepts / 2, size)?;
-    repeat(&mut sheet, random, Step::Inclusion, size.inclusions, size)?;
-    Ok(sheet)
+
+    /// Adds a concept, if there may be one more: atomic or top, or made of earlier ones, once in a while of one concept twice.
+    fn add_concept(&mut self) -> Result<(), AllocError> {
+        if self.room() == 0 {
+            return Ok(());
+        }
+        let earlier = self.concepts();
+        let x = self.random.below(earlier);
+        let y = if self.random.once_in(4) {
+            x
+        } else {
+            self.random.below(earlier)
+        };
+        match self.random.below(20) {
+            0 => self.push(b"T", &[]),
+            1..=4 if earlier > 0 => self.push(b"N", &[x, y]),
+            5..=9 if earlier > 0 && self.roles() > 0 => {
+                let role = self.some_role();
+                self.push(b"E", &[role, y])
+            }
+            _ => self.push(b"A", &[]),
+        }
+    }
+
+    /// Adds an inclusion with some code: once in a while a low one or the greatest.
+    fn include(&mut self, left: usize, right: usize) -> Result<(), AllocError> {
+        let most = usize::from(self.size.most_code);
+        let code = match self.random.below(8) {
+            0..=2 => self.random.below(4).min(most),
+            3 => most,
+            _ => self.random.below(most + 1),
+        };
+        self.push(b"S", &[left, right, code])
+    }
+
+    /// Adds an inclusion, if there may be one more: into or out of a restriction, out of a conjunction or of any concept; once in a while with
+    /// one that leads back.
+    fn add_inclusion(&mut self) -> Result<(), AllocError> {
+        let places = self.places();
+        if self.concepts() == 0 || places == 0 {
+            return Ok(());
+        }
+        let leads_back = places > 1 && self.random.once_in(10);
+        let atomic = self.like(b'A');
+        let restriction = self.like(b'E');
+        let any = self.some_concept();
+        let (left, right) = match self.random.below(12) {
+            0..=3 => (atomic, restriction),
+            4..=7 => (restriction, atomic),
+            8..=9 => (self.like(b'N'), any),
+            _ => (any, self.some_concept()),
+        };
+        if leads_back {
+            self.include(right, left)?;
+        }
+        self.include(left, right)
+    }
+
+    /// Adds an atomic concept and a restriction to the given one, and answers their numbers.
+    fn add_link(&mut self, filler: usize) -> Result<(usize, usize), AllocError> {
+        let atomic = self.concepts();
+        let role = self.some_role();
+        self.push(b"A", &[])?;
+        self.push(b"E", &[role, filler])?;
+        Ok((atomic, atomic.saturating_add(1)))
+    }
+
+    /// Adds a chain, if there may be one: a few concepts, each inside a restriction to the one before, and a restriction to the first inside
+    /// another concept, which shows what comes along the chain.
+    fn add_chain(&mut self) -> Result<(), AllocError> {
+        if self.concepts() == 0 || self.roles() == 0 || self.room() < 8 || self.places() < 4 {
+            return Ok(());
+        }
+        let first = self.some_concept();
+        let mut reached = first;
+        for _ in 0..=self.random.below(3) {
+            let (atomic, restriction) = self.add_link(reached)?;
+            self.include(atomic, restriction)?;
+            reached = atomic;
+        }
+        let (atomic, restriction) = self.add_link(first)?;
+        self.include(restriction, atomic)
+    }
+
+    /// Adds something.
+    fn add_something(&mut self) -> Result<(), AllocError> {
+        match self.random.below(12) {
+            0..=1 => self.add_role(),
+            2..=3 => self.add_role_order(),
+            4..=7 => self.add_concept(),
+            8 => self.add_chain(),
+            _ => self.add_inclusion(),
+        }
+    }
+
+    /// Does the step so many times.
+    fn repeat<F: Fn(&mut Draft) -> Result<(), AllocError>>(
+        &mut self,
+        times: usize,
+        step: F,
+    ) -> Result<(), AllocError>
+        requires { F.IsAlwaysCallable step }
+    {
+        for _ in 0..times {
+            step(self)?;
+        }
+        Ok(())
+    }
+
+    /// Writes roles, their order, concepts, a chain and inclusions; half of the sheets begin with all this in any order.
+    fn fill(&mut self) -> Result<(), AllocError> {
+        let size = self.size;
+        if self.random.once_in(2) {
+            let times = self.random.below(size.concepts);
+            self.repeat(times, Draft::add_something)?;
+        }
+        let order = self.random.below(size.roles.saturating_mul(3));
+        self.repeat(size.roles, Draft::add_role)?;
+        self.repeat(order.saturating_add(1), Draft::add_role_order)?;
+        self.repeat(size.concepts / 2, Draft::add_concept)?;
+        self.add_chain()?;
+        self.repeat(size.concepts / 2, Draft::add_concept)?;
+        self.repeat(size.inclusions, Draft::add_inclusion)
+    }
+}
+
+/// Whether the line begins with one of the letters.
+fn begins(line: &[u8], letters: &[u8]) -> bool {
+    line.first().is_some_and(|letter| letters.contains(letter))
+}
+
+/// A random sheet of at most the size, without a fault where the size keeps the limits.
+pub fn random_sheet(heap: Global, random: &mut Random, size: Size) -> Result<Vec<u8>, AllocError> {
+    let mut draft = Draft {
+        text: Vec::new(heap),
+        random: *random,
+        size,
+    };
+    draft.fill()?;
+    *random = draft.random;
+    Ok(draft.text)
 }

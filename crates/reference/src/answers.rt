@@ -3,15 +3,15 @@ use crate::rounds::Table;
 use crate::vocabularies::{Vocabulary, has};
 use std::alloc::{AllocError, Global};
 
-/// The table at one point, with its vocabulary.
+/// The table of a vocabulary at one point.
 #[derive(Clone, Copy)]
-struct At<'a> {
-    table: &'a Table,
-    vocabulary: &'a Vocabulary,
-    point: usize,
+pub struct AtPoint<'a> {
+    pub table: &'a Table,
+    pub vocabulary: &'a Vocabulary,
+    pub point: usize,
 }
 
-impl At<'_> {
+impl AtPoint<'_> {
     /// Whether both are atomic and the first lies under the second.
     fn below(&self, left: usize, right: usize) -> bool {
         self.vocabulary.is_atomic(left)
@@ -29,66 +29,40 @@ impl At<'_> {
         self.below(left, right) && !self.below(right, left)
     }
 
+    /// Whether b is a mate of a: another, and each lies under the other.
+    fn is_mate(&self, a: usize, b: usize) -> bool {
+        a != b && self.same(a, b)
+    }
+
     /// Whether b is a parent of a: a lies strictly below it, with nothing between, and no mate of b has a lower number.
     fn is_parent(&self, a: usize, b: usize) -> bool {
-        if !self.strictly_below(a, b) {
-            return false;
-        }
-        for c in 0..self.table.concepts {
-            if self.strictly_below(a, c) && self.strictly_below(c, b) || c < b && self.same(c, b) {
-                return false;
-            }
-        }
-        true
+        self.strictly_below(a, b)
+            && !(0..self.table.concepts).any(|c| self.strictly_below(a, c)
+                && self.strictly_below(c, b)
+                || c < b && self.same(c, b))
     }
-}
 
-/// The mates of an atomic concept at the point, ascending.
-pub fn mates<'a>(
-    heap: Global,
-    table: &'a Table,
-    vocabulary: &'a Vocabulary,
-    a: usize,
-    point: usize,
-) -> Result<Vec<u16>, AllocError> {
-    let at = At {
-        table,
-        vocabulary,
-        point,
-    };
-    let mut found = Vec::new(heap);
-    for b in 0..1024u16 {
-        if usize::from(b) >= table.concepts {
-            break;
-        }
-        if usize::from(b) != a && at.same(a, usize::from(b)) {
-            found.push(b)?;
-        }
+    /// The concepts that the test holds of, ascending.
+    fn chosen<F: FnMut(usize) -> bool>(
+        &self,
+        heap: Global,
+        mut test: F,
+    ) -> Result<Vec<u16>, AllocError>
+        requires { (state : F) (b : _) → F.pre state b }
+    {
+        let concepts = u16::try_from(self.table.concepts).unwrap_or(u16::MAX);
+        (0..concepts)
+            .filter(|b| test(usize::from(*b)))
+            .collect(heap)
     }
-    Ok(found)
-}
 
-/// The parents of an atomic concept at the point, ascending.
-pub fn parents<'a>(
-    heap: Global,
-    table: &'a Table,
-    vocabulary: &'a Vocabulary,
-    a: usize,
-    point: usize,
-) -> Result<Vec<u16>, AllocError> {
-    let at = At {
-        table,
-        vocabulary,
-        point,
-    };
-    let mut found = Vec::new(heap);
-    for b in 0..1024u16 {
-        if usize::from(b) >= table.concepts {
-            break;
-        }
-        if at.is_parent(a, usize::from(b)) {
-            found.push(b)?;
-        }
+    /// The mates of an atomic concept, ascending.
+    pub fn mates(&self, heap: Global, a: usize) -> Result<Vec<u16>, AllocError> {
+        self.chosen(heap, |b| self.is_mate(a, b))
     }
-    Ok(found)
+
+    /// The parents of an atomic concept, ascending.
+    pub fn parents(&self, heap: Global, a: usize) -> Result<Vec<u16>, AllocError> {
+        self.chosen(heap, |b| self.is_parent(a, b))
+    }
 }

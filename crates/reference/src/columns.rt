@@ -1,57 +1,45 @@
 //! Text in columns: numbers written in six, lines filled up to twenty.
 use std::alloc::{AllocError, Global};
+use std::iter;
+
+/// A field with nothing in it.
+pub const BLANK: [u8; 6] = [b' '; 6];
 
 /// The last six digits of the number, right-justified after spaces, without leading zeros.
 pub fn six_columns(number: usize) -> [u8; 6] {
-    let mut columns = [b' '; 6];
+    let mut columns = BLANK;
     let mut rest = number;
-    for place in 0..6usize {
-        if rest == 0 && place > 0 {
+    for column in columns.iter_mut().rev() {
+        *column = b'0' + (rest % 10) as u8;
+        rest /= 10;
+        if rest == 0 {
             break;
         }
-        columns[5 - place] = b'0' + (rest % 10) as u8;
-        rest /= 10;
     }
     columns
 }
 
-/// Three fields of six columns: the first have the numbers, from the count on they are blank.
-fn three_fields(numbers: [usize; 3], count: usize) -> [u8; 18] {
-    let mut columns = [b' '; 18];
-    for place in 0..18usize {
-        if place / 6 < count {
-            columns[place] = six_columns(numbers[place / 6])[place % 6];
-        }
-    }
-    columns
-}
-
-/// Adds a line: its start, the numbers up to the count in six columns each, blanks for the others, and a line feed.
-pub fn push_line(
-    text: &mut Vec<u8>,
-    start: &[u8],
-    numbers: [usize; 3],
-    count: usize,
-) -> Result<(), AllocError> {
+/// Adds a line: its start, three fields of six columns, which have the numbers and then are blank, and a line feed.
+pub fn push_line(text: &mut Vec<u8>, start: &[u8], numbers: &[usize]) -> Result<(), AllocError> {
     text.extend_from_slice(start)?;
-    text.extend_from_slice(&three_fields(numbers, count))?;
+    let written = numbers.iter().map(|number| six_columns(*number));
+    for field in written.chain(iter::repeat(BLANK)).take(3) {
+        text.extend_from_slice(&field)?;
+    }
     text.extend_from_slice(b"\n")
 }
 
 /// The text with every line filled by spaces to 19 columns, which saves writing them out.
 pub fn padded(heap: Global, text: &[u8]) -> Result<Vec<u8>, AllocError> {
     let mut filled = Vec::new(heap);
-    let mut column = 0usize;
-    for byte in text {
-        if *byte == b'\n' {
-            for _ in column..19 {
-                filled.push(b' ')?;
-            }
-            column = 0;
+    for line in text.split_inclusive(|byte| *byte == b'\n') {
+        if let [columns @ .., b'\n'] = line {
+            filled.extend_from_slice(columns)?;
+            filled.extend(iter::repeat_n(b' ', 19usize.saturating_sub(columns.len())))?;
+            filled.push(b'\n')?;
         } else {
-            column = column.saturating_add(1);
+            filled.extend_from_slice(line)?;
         }
-        filled.push(*byte)?;
     }
     Ok(filled)
 }

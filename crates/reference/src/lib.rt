@@ -5,16 +5,20 @@
 
 mod answers;
 mod columns;
+mod faults;
 mod kinds;
 mod lines;
 mod listing;
 mod rounds;
+mod sheets;
 mod vocabularies;
 
-pub use answers::{mates, parents};
+pub use answers::AtPoint;
 pub use columns::{padded, push_line, six_columns};
-pub use kinds::{Kind, code, mask};
-pub use lines::{Fault, first_fault};
+pub use faults::{Fault, Layer, Reason};
+pub use kinds::Kind;
+pub use lines::{Concept, Inclusion, WIDTH};
 pub use listing::expected_output;
 pub use rounds::{Table, saturate};
-pub use vocabularies::{Concept, Inclusion, Vocabulary, read};
+pub use sheets::{Room, first_fault};
+pub use vocabularies::{Unread, Vocabulary, read};

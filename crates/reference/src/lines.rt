@@ -1,229 +1,127 @@
-//! The lines of a term sheet and their faults.
-use crate::columns::six_columns;
+//! The lines of a term sheet, and what each of them says.
+use crate::columns::{BLANK, six_columns};
+use crate::faults::{Fault, Layer, Reason};
+use std::str;
 
-/// The bytes of a line.
+/// The columns of a line.
 pub const WIDTH: usize = 20;
 
-/// The first column of each field, counted from 0.
-const FIELD_STARTS: [usize; 3] = [1, 7, 13];
+/// The first column of each field, counted from 1.
+pub const FIELD_COLUMNS: [usize; 3] = [2, 8, 14];
 
-/// The most roles of any sheet.
-const MOST_ROLES: usize = 32;
-
-/// The most concepts of any sheet, however long the list.
-const MOST_CONCEPTS: usize = 1024;
-
-/// The most inclusions of any sheet, however long the list.
-const MOST_INCLUSIONS: usize = 4096;
-
-/// The layers of a fault, as they are numbered in it.
-const FIELD_LAYER: u8 = 0;
-
-const LINE_LAYER: u8 = 1;
-
-const SHEET_LAYER: u8 = 2;
-
-/// Why a text is no sheet: its layer (0 field, 1 line, 2 sheet), its number, and its line and column, both counted from 1.
-#[derive(Clone, Copy, PartialEq, Debug)]
-pub struct Fault {
-    pub layer: u8,
-    pub number: u16,
-    pub line: usize,
-    pub column: usize,
+/// A concept, by the numbers of its parts.
+#[derive(Clone, Copy)]
+pub enum Concept {
+    Atomic,
+    Top,
+    /// The common part of two concepts.
+    Conjunction(usize, usize),
+    /// What the role relates to something in the concept.
+    Restriction(usize, usize),
 }
 
-/// What six columns hold.
+/// The first concept lies inside the second, at the points of the code.
 #[derive(Clone, Copy)]
-pub enum Field {
-    Blank,
-    Number(u16),
-    Neither,
+pub struct Inclusion {
+    pub left: usize,
+    pub right: usize,
+    pub code: u16,
 }
 
-/// A line of twenty bytes.
+/// What a line says.
 #[derive(Clone, Copy)]
-pub struct Line {
-    pub letter: u8,
-    pub fields: [Field; 3],
-    pub feed: u8,
-}
-
-/// What a field has to hold.
-#[derive(Clone, Copy)]
-enum Want {
-    Blank,
-    Concept,
+pub enum Entry {
+    /// There is a concept more.
+    Concept(Concept),
+    /// There is a role more.
     Role,
-    Code,
+    /// The first role lies below the second.
+    Order(usize, usize),
+    /// The role is transitive.
+    Transitive(usize),
+    /// One concept lies inside another.
+    Inclusion(Inclusion),
 }
 
-/// How many of each there are above a line.
+/// A line, with its number, counted from 1.
 #[derive(Clone, Copy)]
-struct Counts {
-    concepts: usize,
-    roles: usize,
-    inclusions: usize,
+pub struct Line<'a> {
+    pub columns: &'a [u8; WIDTH],
+    pub number: usize,
 }
 
-/// What the field holds: a number is what is written just so when it is written in six columns.
-fn field_of(columns: [u8; 6]) -> Field {
-    if columns == [b' '; 6] {
-        return Field::Blank;
-    }
-    let mut number = 0u64;
-    for byte in columns.iter() {
-        if byte.is_ascii_digit() {
-            number = number
-                .saturating_mul(10)
-                .saturating_add(u64::from(*byte).saturating_sub(48));
+/// The number in a field, if it is written there just so as it is written in six columns.
+fn number_in(field: &[u8; 6]) -> Option<u16> {
+    let text = str::from_utf8(field).ok()?;
+    let number = text.trim_start().parse::<u16>().ok()?;
+    (six_columns(usize::from(number)) == *field).then_some(number)
+}
+
+impl Line<'_> {
+    /// A fault in a column of the line.
+    pub fn fault(&self, layer: Layer, reason: Reason, column: usize) -> Fault {
+        Fault {
+            layer,
+            reason,
+            line: self.number,
+            column,
         }
     }
-    match u16::try_from(number) {
-        Ok(number) if six_columns(usize::from(number)) == columns => Field::Number(number),
-        _ => Field::Neither,
+
+    /// The numbers in the first fields, where the others are blank.
+    fn numbers<const N: usize>(&self) -> Result<[u16; N], Fault> {
+        let mut numbers = [0; N];
+        let columns = self.columns;
+        let (fields, _) = columns[1..19].as_chunks::<6>();
+        for (place, (field, column)) in fields.iter().zip(FIELD_COLUMNS).enumerate() {
+            let fault = self.fault(Layer::Field, Reason::BadField, column);
+            if place < N {
+                numbers[place] = number_in(field).ok_or(fault)?;
+            } else if *field != BLANK {
+                return Err(fault);
+            }
+        }
+        Ok(numbers)
     }
-}
 
-/// The byte at the index, or 0 past the end.
-fn byte_at(text: &[u8], index: usize) -> u8 {
-    text.get(index).copied().unwrap_or(0)
-}
-
-/// The field that begins at the index.
-fn field_at(text: &[u8], start: usize) -> Field {
-    let mut columns = [0; 6];
-    for i in 0..6usize {
-        columns[i] = byte_at(text, start.saturating_add(i));
-    }
-    field_of(columns)
-}
-
-/// The line at the place, counted from 0.
-pub fn line_at(text: &[u8], place: usize) -> Line {
-    let start = place.saturating_mul(WIDTH);
-    let [first, second, third] = FIELD_STARTS;
-    Line {
-        letter: byte_at(text, start),
-        fields: [
-            field_at(text, start.saturating_add(first)),
-            field_at(text, start.saturating_add(second)),
-            field_at(text, start.saturating_add(third)),
-        ],
-        feed: byte_at(text, start.saturating_add(19)),
-    }
-}
-
-/// What the fields of a line with this letter have to hold.
-fn wants(letter: u8) -> Option<[Want; 3]> {
-    match letter {
-        b'A' | b'T' | b'R' => Some([Want::Blank, Want::Blank, Want::Blank]),
-        b'N' => Some([Want::Concept, Want::Concept, Want::Blank]),
-        b'E' => Some([Want::Role, Want::Concept, Want::Blank]),
-        b'I' => Some([Want::Role, Want::Role, Want::Blank]),
-        b'P' => Some([Want::Role, Want::Blank, Want::Blank]),
-        b'S' => Some([Want::Concept, Want::Concept, Want::Code]),
-        _ => None,
-    }
-}
-
-/// Whether the field is blank or a number where it has to be.
-fn formed(want: Want, field: Field) -> bool {
-    match (want, field) {
-        (Want::Blank, Field::Blank) => true,
-        (Want::Blank, _) => false,
-        (_, Field::Number(_)) => true,
-        _ => false,
-    }
-}
-
-/// Whether the number in the field, if it is a name, names something above.
-fn names(want: Want, field: Field, above: Counts) -> bool {
-    match (want, field) {
-        (Want::Concept, Field::Number(number)) => usize::from(number) < above.concepts,
-        (Want::Role, Field::Number(number)) => usize::from(number) < above.roles,
-        _ => true,
-    }
-}
-
-/// The counts with this line's letter.
-fn after(above: Counts, letter: u8) -> Counts {
-    match letter {
-        b'A' | b'T' | b'N' | b'E' => Counts {
-            concepts: above.concepts.saturating_add(1),
-            ..above
-        },
-        b'R' => Counts {
-            roles: above.roles.saturating_add(1),
-            ..above
-        },
-        b'S' => Counts {
-            inclusions: above.inclusions.saturating_add(1),
-            ..above
-        },
-        _ => above,
-    }
-}
-
-/// The layer, number and column of the line's first fault.
-fn line_fault(line: Line, above: Counts, most: Counts) -> Option<(u8, u16, usize)> {
-    let Some(wants) = wants(line.letter) else {
-        return Some((LINE_LAYER, 2, 1));
-    };
-    for k in 0..3usize {
-        if !formed(wants[k], line.fields[k]) {
-            return Some((FIELD_LAYER, 3, FIELD_STARTS[k] + 1));
+    /// What the line says, if it is in form.
+    pub fn entry(&self) -> Result<Entry, Fault> {
+        let entry = match self.columns[0] {
+            b'A' => self
+                .numbers::<0>()
+                .map(|_| Entry::Concept(Concept::Atomic))?,
+            b'T' => self.numbers::<0>().map(|_| Entry::Concept(Concept::Top))?,
+            b'N' => {
+                let [x, y] = self.numbers::<2>()?.map(usize::from);
+                Entry::Concept(Concept::Conjunction(x, y))
+            }
+            b'E' => {
+                let [role, x] = self.numbers::<2>()?.map(usize::from);
+                Entry::Concept(Concept::Restriction(role, x))
+            }
+            b'R' => self.numbers::<0>().map(|_| Entry::Role)?,
+            b'I' => {
+                let [lower, upper] = self.numbers::<2>()?.map(usize::from);
+                Entry::Order(lower, upper)
+            }
+            b'P' => {
+                let [role] = self.numbers::<1>()?.map(usize::from);
+                Entry::Transitive(role)
+            }
+            b'S' => {
+                let [left, right, code] = self.numbers::<3>()?;
+                Entry::Inclusion(Inclusion {
+                    left: usize::from(left),
+                    right: usize::from(right),
+                    code,
+                })
+            }
+            _ => return Err(self.fault(Layer::Line, Reason::UnknownLetter, 1)),
+        };
+        if self.columns[19] == b'\n' {
+            Ok(entry)
+        } else {
+            Err(self.fault(Layer::Line, Reason::NoLineFeed, 20))
         }
     }
-    if line.feed != b'\n' {
-        return Some((LINE_LAYER, 4, 20));
-    }
-    for k in 0..3usize {
-        if !names(wants[k], line.fields[k], above) {
-            return Some((FIELD_LAYER, 5, FIELD_STARTS[k] + 1));
-        }
-    }
-    let with = after(above, line.letter);
-    if with.concepts > most.concepts
-        || with.roles > most.roles
-        || with.inclusions > most.inclusions
-    {
-        return Some((SHEET_LAYER, 6, 1));
-    }
-    None
-}
-
-/// The first fault of the text, for lists of these lengths.
-pub fn first_fault(text: &[u8], most_concepts: usize, most_inclusions: usize) -> Option<Fault> {
-    let lines = text.len() / WIDTH;
-    if text.len() % WIDTH != 0 {
-        return Some(Fault {
-            layer: SHEET_LAYER,
-            number: 1,
-            line: lines + 1,
-            column: 1,
-        });
-    }
-    let most = Counts {
-        concepts: most_concepts.min(MOST_CONCEPTS),
-        roles: MOST_ROLES,
-        inclusions: most_inclusions.min(MOST_INCLUSIONS),
-    };
-    let mut above = Counts {
-        concepts: 0,
-        roles: 0,
-        inclusions: 0,
-    };
-    for place in 0..lines {
-        let line = line_at(text, place);
-        if let Some((layer, number, column)) = line_fault(line, above, most) {
-            return Some(Fault {
-                layer,
-                number,
-                line: place + 1,
-                column,
-            });
-        }
-        above = after(above, line.letter);
-    }
-    None
 }

@@ -1,17 +1,20 @@
 //! What the program `tree` prints.
 use crate::columns::push_line;
-use crate::kinds::{Kind, code};
-use crate::rounds::saturate;
-use crate::vocabularies::{Vocabulary, read};
+use crate::faults::{Fault, Layer, Reason};
+use crate::kinds::Kind;
+use crate::rounds::{Table, saturate};
+use crate::sheets::Room;
+use crate::vocabularies::{Unread, Vocabulary, read};
 use std::alloc::{AllocError, Global};
 
 /// The longest text that the program reads.
 const MOST_BYTES: usize = 4000;
 
 /// The concepts and inclusions that its lists have room for.
-const MOST_CONCEPTS: usize = 40;
-
-const MOST_INCLUSIONS: usize = 200;
+const ROOM: Room = Room {
+    concepts: 40,
+    inclusions: 200,
+};
 
 /// The words of its board.
 const WORDS: usize = 17640;
@@ -19,24 +22,50 @@ const WORDS: usize = 17640;
 /// The greatest code of releases, which holds nothing.
 const LAST_CODE: u16 = 64;
 
-/// The line of a rejection.
-fn rejection(
-    heap: Global,
-    number: usize,
-    line: usize,
-    column: usize,
-) -> Result<Vec<u8>, AllocError> {
-    let mut output = Vec::new(heap);
-    push_line(&mut output, b"!", [number, line, column], 3)?;
-    Ok(output)
+/// The fault of a text that is longer than the program reads: at the first line that it does not read.
+const TOO_LONG: Fault = Fault {
+    layer: Layer::Sheet,
+    reason: Reason::BeyondLimit,
+    line: 201,
+    column: 1,
+};
+
+/// Why there is no listing.
+#[derive(Debug, Drop)]
+enum Unlisted {
+    /// The text is no sheet.
+    Fault(Fault),
+    /// An inclusion has a code beyond the last.
+    ForeignCode,
+    /// The board has too few words.
+    TooFewWords,
+    /// There is no memory.
+    Memory(AllocError),
 }
 
-/// The number by which the board for the vocabulary is turned down: 8 for a code beyond the last, 9 for too few words.
-fn check_number(vocabulary: &Vocabulary) -> Option<usize> {
-    for inclusion in vocabulary.inclusions.iter() {
-        if inclusion.code > LAST_CODE {
-            return Some(8);
+impl From<Unread> for Unlisted {
+    fn from(error: Unread) -> Unlisted {
+        match error {
+            Unread::Fault(fault) => Unlisted::Fault(fault),
+            Unread::Memory(error) => Unlisted::Memory(error),
         }
+    }
+}
+
+impl From<AllocError> for Unlisted {
+    fn from(error: AllocError) -> Unlisted {
+        Unlisted::Memory(error)
+    }
+}
+
+/// Whether the vocabulary gets a board.
+fn check_board(vocabulary: &Vocabulary) -> Result<(), Unlisted> {
+    if vocabulary
+        .inclusions
+        .iter()
+        .any(|inclusion| inclusion.code > LAST_CODE)
+    {
+        return Err(Unlisted::ForeignCode);
     }
     let concepts = vocabulary.concepts.len();
     let planes = vocabulary.above.len().saturating_mul(2).saturating_add(3);
@@ -44,35 +73,53 @@ fn check_number(vocabulary: &Vocabulary) -> Option<usize> {
         .saturating_mul(concepts)
         .saturating_mul(planes)
         .saturating_add(concepts);
-    if words > WORDS { Some(9) } else { None }
+    if words > WORDS {
+        return Err(Unlisted::TooFewWords);
+    }
+    Ok(())
 }
 
-/// A line for each two different atomic concepts of which the first lies under the second at some point.
-fn listing(heap: Global, vocabulary: &Vocabulary) -> Result<Vec<u8>, AllocError> {
-    let table = saturate(heap, vocabulary, Kind::Releases)?;
-    let mut output = Vec::new(heap);
-    for a in 0..table.concepts {
-        for d in 0..table.concepts {
-            let grade = code(Kind::Releases, table.under(a, d)).unwrap_or(u16::MAX);
-            let counts = a != d && vocabulary.is_atomic(a) && vocabulary.is_atomic(d);
-            if counts && grade != LAST_CODE {
-                push_line(&mut output, b"", [a, d, usize::from(grade)], 3)?;
-            }
+/// Adds a line for each other atomic concept that the atomic concept lies under at some point.
+fn push_row(
+    output: &mut Vec<u8>,
+    vocabulary: &Vocabulary,
+    table: &Table,
+    a: usize,
+) -> Result<(), AllocError> {
+    for d in (0..table.concepts).filter(|d| *d != a && vocabulary.is_atomic(*d)) {
+        let grade = Kind::Releases.code(table.under(a, d)).unwrap_or(u16::MAX);
+        if grade != LAST_CODE {
+            push_line(output, b"", &[a, d, usize::from(grade)])?;
         }
+    }
+    Ok(())
+}
+
+/// The listing of the text, or why there is none.
+fn listing(heap: Global, text: &[u8]) -> Result<Vec<u8>, Unlisted> {
+    if text.len() > MOST_BYTES {
+        return Err(Unlisted::Fault(TOO_LONG));
+    }
+    let vocabulary = read(heap, text, ROOM)?;
+    check_board(&vocabulary)?;
+    let table = saturate(heap, &vocabulary, Kind::Releases)?;
+    let mut output = Vec::new(heap);
+    for a in (0..table.concepts).filter(|a| vocabulary.is_atomic(*a)) {
+        push_row(&mut output, &vocabulary, &table, a)?;
     }
     Ok(output)
 }
 
 /// Exactly the bytes that the program prints for the text.
 pub fn expected_output(heap: Global, text: &[u8]) -> Result<Vec<u8>, AllocError> {
-    if text.len() > MOST_BYTES {
-        return rejection(heap, 6, 201, 1);
-    }
-    match read(heap, text, MOST_CONCEPTS, MOST_INCLUSIONS)? {
-        Err(fault) => rejection(heap, usize::from(fault.number), fault.line, fault.column),
-        Ok(vocabulary) => match check_number(&vocabulary) {
-            Some(number) => rejection(heap, number, 0, 0),
-            None => listing(heap, &vocabulary),
-        },
-    }
+    let numbers = match listing(heap, text) {
+        Ok(output) => return Ok(output),
+        Err(Unlisted::Memory(error)) => return Err(error),
+        Err(Unlisted::Fault(fault)) => [usize::from(fault.number()), fault.line, fault.column],
+        Err(Unlisted::ForeignCode) => [8, 0, 0],
+        Err(Unlisted::TooFewWords) => [9, 0, 0],
+    };
+    let mut output = Vec::new(heap);
+    push_line(&mut output, b"!", &numbers)?;
+    Ok(output)
 }

@@ -5,10 +5,11 @@
 mod tests {
     use random_sheets::{Random, Size, damaged, random_sheet};
     use reference::{
-        Fault, Kind, Vocabulary, code, expected_output, first_fault, mates, padded, parents,
-        push_line, read, saturate,
+        AtPoint, Fault, Kind, Layer, Reason, Room, Unread, Vocabulary, expected_output,
+        first_fault, padded, push_line, read, saturate,
     };
     use std::alloc::{AllocError, Global};
+    use std::iter;
     use std::test::Fail;
 
     // Sheets, whose lines may be short, and what is printed for them.
@@ -46,14 +47,28 @@ mod tests {
         (1, 200, b"!     6   201     1\n"),
     ];
 
+    // Room for what the program reads, for what any sheet has at most, and for more.
+    const USUAL: Room = Room {
+        concepts: 40,
+        inclusions: 200,
+    };
+
+    const LIMITS: Room = Room {
+        concepts: 1024,
+        inclusions: 4096,
+    };
+
+    const BEYOND_LIMITS: Room = Room {
+        concepts: 2000,
+        inclusions: 5000,
+    };
+
     // A sheet of so many atomic concepts and roles.
     fn bare(heap: Global, concepts: usize, roles: usize) -> Result<Vec<u8>, AllocError> {
         let mut text = Vec::new(heap);
-        for _ in 0..concepts {
-            push_line(&mut text, b"A", [0, 0, 0], 0)?;
-        }
-        for _ in 0..roles {
-            push_line(&mut text, b"R", [0, 0, 0], 0)?;
+        let letters = iter::repeat_n(b'A', concepts).chain(iter::repeat_n(b'R', roles));
+        for letter in letters {
+            push_line(&mut text, &[letter], &[])?;
         }
         Ok(text)
     }
@@ -75,30 +90,29 @@ mod tests {
     #[test]
     fn faults(rt: HostRuntime) -> Result<(), Fail> {
         let heap = rt.alloc();
-        assert!(rt; first_fault(&bare(heap, 1024, 32)?, 2000, 5000).is_none());
+        assert!(rt; first_fault(&bare(heap, 1024, 32)?, BEYOND_LIMITS).is_none());
         let beyond = Fault {
-            layer: 2,
-            number: 6,
+            layer: Layer::Sheet,
+            reason: Reason::BeyondLimit,
             line: 1025,
             column: 1,
         };
-        assert!(rt; first_fault(&bare(heap, 1025, 0)?, 2000, 5000) == Some(beyond));
+        assert!(rt; first_fault(&bare(heap, 1025, 0)?, BEYOND_LIMITS) == Some(beyond));
+        assert!(rt; beyond.number() == 6);
         let feedless = Fault {
-            layer: 1,
-            number: 4,
+            layer: Layer::Line,
+            reason: Reason::NoLineFeed,
             line: 1,
             column: 20,
         };
-        assert!(rt; first_fault(b"A                  A", 40, 200) == Some(feedless));
+        assert!(rt; first_fault(b"A                  A", USUAL) == Some(feedless));
+        assert!(rt; feedless.number() == 4);
         Ok(())
     }
 
     // The vocabulary of the sheet, whose lines may be short.
-    fn vocabulary(heap: Global, sheet: &[u8]) -> Result<Vocabulary, Fail> {
-        match read(heap, &padded(heap, sheet)?, 1024, 4096)? {
-            Ok(vocabulary) => Ok(vocabulary),
-            Err(_) => Err(Fail::new("a fault")),
-        }
+    fn vocabulary(heap: Global, sheet: &[u8]) -> Result<Vocabulary, Unread> {
+        read(heap, &padded(heap, sheet)?, LIMITS)
     }
 
     #[test]
@@ -106,10 +120,10 @@ mod tests {
         let heap = rt.alloc();
         let twice = vocabulary(heap, b"A\nN     0     0\n")?;
         let table = saturate(heap, &twice, Kind::Releases)?;
-        assert!(rt; code(Kind::Releases, table.under(0, 1)) == Some(0));
+        assert!(rt; Kind::Releases.code(table.under(0, 1)) == Some(0));
         let views = vocabulary(heap, b"A\nA\nA\nS     0     1     5\nS     1     2     6\n")?;
         let table = saturate(heap, &views, Kind::Views)?;
-        assert!(rt; code(Kind::Views, table.under(0, 2)) == Some(4));
+        assert!(rt; Kind::Views.code(table.under(0, 2)) == Some(4));
         Ok(())
     }
 
@@ -119,12 +133,22 @@ mod tests {
         let child = vocabulary(heap, b"A\nA\nS     0     1     1\n")?;
         let table = saturate(heap, &child, Kind::Plain)?;
         assert!(rt; table.job_points(&child) == 3);
-        assert!(rt; mates(heap, &table, &child, 0, 0)?.is_empty());
-        assert!(rt; parents(heap, &table, &child, 0, 0)?.as_slice() == [1].as_slice());
+        let at = AtPoint {
+            table: &table,
+            vocabulary: &child,
+            point: 0,
+        };
+        assert!(rt; at.mates(heap, 0)?.is_empty());
+        assert!(rt; at.parents(heap, 0)?.as_slice() == [1].as_slice());
         let mate = vocabulary(heap, b"A\nA\nS     0     1     1\nS     1     0     1\n")?;
         let table = saturate(heap, &mate, Kind::Plain)?;
-        assert!(rt; mates(heap, &table, &mate, 0, 0)?.as_slice() == [1].as_slice());
-        assert!(rt; parents(heap, &table, &mate, 0, 0)?.is_empty());
+        let at = AtPoint {
+            table: &table,
+            vocabulary: &mate,
+            point: 0,
+        };
+        assert!(rt; at.mates(heap, 0)?.as_slice() == [1].as_slice());
+        assert!(rt; at.parents(heap, 0)?.is_empty());
         Ok(())
     }
 
@@ -140,9 +164,13 @@ mod tests {
                 inclusions: concepts,
                 most_code: 64,
             };
+            let room = Room {
+                concepts,
+                inclusions: concepts,
+            };
             let sheet = random_sheet(heap, &mut random, size)?;
-            assert!(rt; first_fault(&sheet, concepts, concepts).is_none());
-            if first_fault(&damaged(heap, &mut random, &sheet)?, concepts, concepts).is_some() {
+            assert!(rt; first_fault(&sheet, room).is_none());
+            if first_fault(&damaged(heap, &mut random, &sheet)?, room).is_some() {
                 faulty = faulty.saturating_add(1);
             }
         }

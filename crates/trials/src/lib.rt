@@ -5,7 +5,7 @@
 mod tests {
     use listing::text::{PAGE, list};
     use random_sheets::{Random, Size, damaged, random_sheet};
-    use reference::{expected_output, first_fault};
+    use reference::{Room, expected_output, first_fault};
     use sheet::fault::Layer;
     use sheet::read;
     use std::alloc::{AllocError, Global};
@@ -17,6 +17,11 @@ mod tests {
     const CONCEPTS: usize = 40;
 
     const INCLUSIONS: usize = 200;
+
+    const ROOM: Room = Room {
+        concepts: CONCEPTS,
+        inclusions: INCLUSIONS,
+    };
 
     // Whether the library answers for a text what the other classifier expects, byte by byte.
     fn agrees(heap: Global, text: &[u8], page: &mut [u8; PAGE]) -> Result<bool, AllocError> {
@@ -69,17 +74,43 @@ mod tests {
         Ok(())
     }
 
-    // The number by which the other reader knows the layer.
-    fn layer_number(layer: Layer) -> u8 {
-        match layer {
-            Layer::Field => 0,
-            Layer::Line => 1,
-            Layer::Sheet => 2,
+    // What a fault is, for either reader.
+    #[derive(Clone, Copy, PartialEq, Debug)]
+    struct Known {
+        layer: Layer,
+        number: u16,
+        line: usize,
+        column: usize,
+    }
+
+    impl From<sheet::fault::Fault> for Known {
+        fn from(fault: sheet::fault::Fault) -> Known {
+            Known {
+                layer: fault.layer,
+                number: fault.rejection.number(),
+                line: fault.line,
+                column: fault.column,
+            }
+        }
+    }
+
+    impl From<reference::Fault> for Known {
+        fn from(fault: reference::Fault) -> Known {
+            Known {
+                layer: match fault.layer {
+                    reference::Layer::Field => Layer::Field,
+                    reference::Layer::Line => Layer::Line,
+                    reference::Layer::Sheet => Layer::Sheet,
+                },
+                number: fault.number(),
+                line: fault.line,
+                column: fault.column,
+            }
         }
     }
 
     // The first fault of the text by the library's reader.
-    fn fault_of(text: &[u8]) -> Option<reference::Fault> {
+    fn fault_of(text: &[u8]) -> Option<Known> {
         let mut concepts = [Concept::Atomic; CONCEPTS];
         let mut inclusions = [Inclusion {
             sub: 0,
@@ -87,39 +118,26 @@ mod tests {
             code: 0,
         }; INCLUSIONS];
         let mut terms = Terms::empty(&mut concepts, &mut inclusions);
-        match read(text, &mut terms) {
-            Ok(_) => None,
-            Err(fault) => Some(reference::Fault {
-                layer: layer_number(fault.layer),
-                number: fault.rejection.number(),
-                line: fault.line,
-                column: fault.column,
-            }),
-        }
+        read(text, &mut terms).err().map(Known::from)
     }
 
     // How many faults of each layer were met.
-    #[derive(Clone, Copy)]
-    struct Met([u32; 3]);
+    #[derive(Clone, Copy, Default)]
+    struct Met {
+        fields: u32,
+        lines: u32,
+        sheets: u32,
+    }
 
     impl Met {
-        // One fault more, if there is one.
-        fn with(self, fault: Option<reference::Fault>) -> Met {
-            let Met([fields, lines, sheets]) = self;
-            match fault {
-                Some(reference::Fault { layer: 0, .. }) => Met([
-                    fields.saturating_add(1),
-                    lines,
-                    sheets,
-                ]),
-                Some(reference::Fault { layer: 1, .. }) => Met([
-                    fields,
-                    lines.saturating_add(1),
-                    sheets,
-                ]),
-                Some(_) => Met([fields, lines, sheets.saturating_add(1)]),
-                None => self,
-            }
+        // One fault more of the layer.
+        fn add(&mut self, layer: Layer) {
+            let met = match layer {
+                Layer::Field => &mut self.fields,
+                Layer::Line => &mut self.lines,
+                Layer::Sheet => &mut self.sheets,
+            };
+            *met = met.saturating_add(1);
         }
     }
 
@@ -133,15 +151,21 @@ mod tests {
             most_code: 65535,
         };
         let mut random = Random::seeded(3);
-        let mut met = Met([0; 3]);
+        let mut met = Met::default();
         for _ in 0..4000u32 {
             let sheet = random_sheet(rt.alloc(), &mut random, size)?;
             let broken = damaged(rt.alloc(), &mut random, sheet.as_slice())?;
             let fault = fault_of(&broken);
-            assert_eq!(rt; fault, first_fault(&broken, CONCEPTS, INCLUSIONS));
-            met = met.with(fault);
+            assert_eq!(rt; fault, first_fault(&broken, ROOM).map(Known::from));
+            if let Some(fault) = fault {
+                met.add(fault.layer);
+            }
         }
-        let Met([fields, lines, sheets]) = met;
+        let Met {
+            fields,
+            lines,
+            sheets,
+        } = met;
         assert!(rt; fields > 0 && lines > 0 && sheets > 0);
         println!(rt;
             "damaged sheets compared: 4000, with {fields} faults of fields, {lines} of lines and {sheets} of sheets"

@@ -4,9 +4,15 @@ use crate::trial::CONCEPTS;
 use crate::trouble::Trouble;
 use board::closed::ClosedBoard;
 use grades::kind::GradeKind;
-use reference::{Kind, Table, Vocabulary, code, mates, parents, saturate};
+use reference::{AtPoint, Kind, Room, Table, Vocabulary, saturate};
 use std::alloc::Global;
 use terms::terms::Terms;
+
+/// The concepts and inclusions that the other classifier has room for.
+const ROOM: Room = Room {
+    concepts: 1024,
+    inclusions: 4096,
+};
 
 /// What the other classifier says of a sheet.
 #[derive(Drop)]
@@ -19,9 +25,7 @@ pub struct Truth {
 impl Truth {
     /// What it says of the text.
     pub fn of(heap: Global, text: &[u8], kind: Kind) -> Result<Truth, Trouble> {
-        let Ok(vocabulary) = reference::read(heap, text, 1024, 4096)? else {
-            return Err(Trouble::Differs("a random sheet has a fault"));
-        };
+        let vocabulary = reference::read(heap, text, ROOM)?;
         let table = saturate(heap, &vocabulary, kind)?;
         Ok(Truth {
             vocabulary,
@@ -32,7 +36,8 @@ impl Truth {
 
     /// The code of "a under d".
     pub fn under(&self, a: u16, d: u16) -> Option<u16> {
-        code(self.kind, self.table.under(usize::from(a), usize::from(d)))
+        self.kind
+            .code(self.table.under(usize::from(a), usize::from(d)))
     }
 
     /// Whether so many steps are possible: with one point there is one step for each derivable job, else there may be fewer.
@@ -54,15 +59,19 @@ impl Truth {
         point: u8,
     ) -> Result<(), Trouble> {
         let place = usize::from(a);
-        let at = usize::from(point);
+        let at = AtPoint {
+            table: &self.table,
+            vocabulary: &self.vocabulary,
+            point: usize::from(point),
+        };
         let mut list = [u16::MAX; CONCEPTS];
         let mated = board.mates(terms, a, point, &mut list);
-        let expected = mates(heap, &self.table, &self.vocabulary, place, at)?;
+        let expected = at.mates(heap, place)?;
         if mated != Ok(expected.len()) || !list.starts_with(&expected) {
             return Err(Trouble::Differs("other mates"));
         }
         let above = board.parents(terms, a, point, &mut list);
-        let expected = parents(heap, &self.table, &self.vocabulary, place, at)?;
+        let expected = at.parents(heap, place)?;
         if above != Ok(expected.len()) || !list.starts_with(&expected) {
             return Err(Trouble::Differs("other parents"));
         }

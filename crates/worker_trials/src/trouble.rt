@@ -1,5 +1,6 @@
 //! Why a trial stopped.
 use crate::slots::Slots;
+use reference::Unread;
 use std::alloc::AllocError;
 
 /// Why a trial stopped. It is not `Drop`, since tokens may be in it.
@@ -26,5 +27,14 @@ impl Trouble {
 impl From<AllocError> for Trouble {
     fn from(_error: AllocError) -> Trouble {
         Trouble::Memory
+    }
+}
+
+impl From<Unread> for Trouble {
+    fn from(error: Unread) -> Trouble {
+        match error {
+            Unread::Fault(_) => Trouble::Differs("a random sheet has a fault"),
+            Unread::Memory(_) => Trouble::Memory,
+        }
     }
 }
