@@ -14,10 +14,12 @@ use terms::terms::Terms;
 fn check_codes<K: GradeKind>(terms: &Terms, _kind: K) -> Result<(), Rejection>
     ensures { MatchResult result (λ _. Coded (terms_of terms.now) K.GradeKind.kind) (λ e. (words : ℕ) (s : Numbers) → MakeRejected (terms_of terms.now) K.GradeKind.kind words s e) }
 {
-    for inclusion in terms.inclusions() {
-        if u32::from(inclusion.code) >= K::count() {
-            return Err(Rejection::ForeignCode);
-        }
+    if terms
+        .inclusions()
+        .iter()
+        .any(|inclusion| u32::from(inclusion.code) >= K::count())
+    {
+        return Err(Rejection::ForeignCode);
     }
     Ok(())
 }

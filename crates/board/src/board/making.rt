@@ -12,7 +12,6 @@ use super::OpenBoard;
 use super::states::Change;
 use crate::checking::check;
 use crate::counts::Counts;
-use crate::lookup::is_named;
 use grades::kind::GradeKind;
 use piles::pile::Pile;
 use reasoning::Fact;
@@ -24,9 +23,7 @@ fn fill(words: &mut [u16], low: usize, high: usize, g: u16)
     requires { (low ≤ high) × (high ≤ length words.old) }
     ensures { Filled low high g words.old words.new }
 {
-    for i in low..high {
-        words[i] = g;
-    }
+    words[low..high].fill(g);
 }
 
 impl<'a, K: GradeKind> OpenBoard<'a, K> {
@@ -55,7 +52,7 @@ impl<'a, K: GradeKind> OpenBoard<'a, K> {
         ensures begun { Begun (terms_of terms.now) K.GradeKind.kind P.Pile.numbers (a + 1) self.new pile.new }
         ensures kept { Kept P.Pile.numbers self.old pile.old self.new pile.new }
     {
-        if is_named(terms, a) {
+        if terms.is_named(a) {
             self.write_found(Fact::Under(a, a), K::all());
             self.queue(pile, a, Change::Raise);
         }

@@ -24,6 +24,7 @@ impl<'b> Reader<'b> {
         requires { Fits self.now.counts.concepts self.now.counts.roles fact }
         ensures { result ≡ (read_of self.now).found fact }
     {
+        // A read that asks nothing of the fact would test each place as it runs, and a fact that carries its proof would carry the counts.
         self.words[self.counts.spot(fact)]
     }
 
@@ -40,6 +41,7 @@ impl<'b> Reader<'b> {
         requires { c < self.now.counts.concepts }
         ensures { result ≡ (read_of self.now).state c }
     {
+        // Words are read as states here alone; a `From` beside `State` would bring the board's words to another crate.
         match self.words[c] {
             0 => State::Idle,
             1 => State::Queued,
@@ -52,9 +54,6 @@ impl<'b> Reader<'b> {
         requires { c < self.now.counts.concepts }
         ensures { result ≡ is_idle ((read_of self.now).state c) }
     {
-        match self.state(c) {
-            State::Idle => true,
-            State::Queued | State::Held => false,
-        }
+        self.state(c) == State::Idle
     }
 }

@@ -1,5 +1,7 @@
-use Rattle.std.proofs.Common.{length, refl, ◌∙◌, subst, subst₂}
+use Rattle.std.proofs.Common.{length, sym, ◌∙◌, subst, subst₂}
+use Rattle.std.proofs.lemmas.Bool.{false≢true}
 use Rattle.terms.specs.Views.{terms_of}
+use Rattle.terms.proofs.Namings.{named_is, is_named_lem}
 use Rattle.reasoning.specs.declared.Fact.TheVariants.{Under as under}
 use Rattle.board.specs.Views.{board_of, moment_of}
 use Rattle.board.specs.Moves.{Wrote, Nudged}
@@ -27,13 +29,13 @@ returns-then-is_named g c =
     let N : Nudged (length v.concepts) v.roles x (moment_of numbers b p) (moment_of numbers d q) =
     subst₂ (λ n m. Nudged n m x (moment_of numbers b p) (moment_of numbers d q)) (F.concepts ∙ en) (F.roles ∙ em) c.queue.ensures.nudged in
     record {
-      begun = begun_more v k numbers x a b d p q c.requires.begun (c.if-is_named.ensures.named refl) F c.queue.ensures.kept.frame W N c.queue.ensures.kept.size;
+      begun = begun_more v k numbers x a b d p q c.requires.begun (named_is v x (sym c.if-is_named.ensures)) F c.queue.ensures.kept.frame W N c.queue.ensures.kept.size;
       kept = kept_framed F c.queue.ensures.kept;
     }
 
 pub returns-else-is_named : goal.returns-else-is_named
 returns-else-is_named g c =
     record {
-      begun = begun_skip (terms_of c.args.terms.now) g.K.GradeKind.kind g.P.Pile.numbers c.args.a c.args.self.now c.args.pile.now c.requires.begun (c.if-is_named.ensures.other refl);
+      begun = begun_skip (terms_of c.args.terms.now) g.K.GradeKind.kind g.P.Pile.numbers c.args.a c.args.self.now c.args.pile.now c.requires.begun (λ i. false≢true (c.if-is_named.ensures ∙ is_named_lem (terms_of c.args.terms.now) c.args.a i));
       kept = kept_same;
     }
