@@ -1,3 +1,4 @@
+pub mod Options
 pub mod Places
 pub mod Words
 pub mod Frames

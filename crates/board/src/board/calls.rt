@@ -37,14 +37,8 @@ impl<'a, K: GradeKind> OpenBoard<'a, K> {
         ensures held { result ≡ true → IsHeld self.now.counts.concepts (board_of self.now) c }
         ensures free { result ≡ false → IsHeld self.now.counts.concepts (board_of self.now) c → ⊥ }
     {
-        if (c as usize) < self.counts.concepts {
-            match self.state(c as usize) {
-                State::Held => true,
-                State::Idle | State::Queued => false,
-            }
-        } else {
-            false
-        }
+        let c = usize::from(c);
+        c < self.counts.concepts && matches!(self.state(c), State::Held)
     }
 
     /// Draws a queued concept from the pile and makes it held. The lease names it.
@@ -56,10 +50,8 @@ impl<'a, K: GradeKind> OpenBoard<'a, K> {
         if P::size(pile) < self.counts.concepts {
             return Err(Rejection::SmallPile);
         }
-        let Some(concept) = pile.draw() else {
-            return Err(Rejection::EmptyPile);
-        };
-        if (concept as usize) < self.counts.concepts && self.shift(concept, Change::Take) {
+        let concept = pile.draw().ok_or(Rejection::EmptyPile)?;
+        if usize::from(concept) < self.counts.concepts && self.shift(concept, Change::Take) {
             return Ok(Lease { concept });
         }
         let _ = pile.put(concept);
@@ -81,10 +73,8 @@ impl<'a, K: GradeKind> OpenBoard<'a, K> {
         if !self.is_held(lease.concept) {
             return Err(Rejection::UnfitLease);
         }
-        match self.work(terms, pile, lease.concept) {
-            Some(job) => Ok(job),
-            None => Err(Rejection::NothingWaits),
-        }
+        self.work(terms, pile, lease.concept)
+            .ok_or(Rejection::NothingWaits)
     }
 
     /// Gives a lease back and makes its concept idle. The lowered lease asks for a recheck.
@@ -93,9 +83,7 @@ impl<'a, K: GradeKind> OpenBoard<'a, K> {
         ensures sane { StaysSane K.GradeKind.kind self.old self.new }
         ensures lowered { LoweredBy lease self.old self.new result }
     {
-        if (lease.concept as usize) < self.counts.concepts
-            && self.shift(lease.concept, Change::Lower)
-        {
+        if usize::from(lease.concept) < self.counts.concepts && self.shift(lease.concept, Change::Lower) {
             let Lease { concept } = lease;
             Ok(LoweredLease { concept })
         } else {
@@ -113,7 +101,7 @@ impl<'a, K: GradeKind> OpenBoard<'a, K> {
         ensures kept { Kept P.Pile.numbers self.old pile.old self.new pile.new }
         ensures rechecked { Rechecked (terms_of terms.now) c (moment_of P.Pile.numbers self.old pile.old) (moment_of P.Pile.numbers self.new pile.new) }
     {
-        if let Some(_) = self.first(terms, c) {
+        if self.first(terms, c).is_some() {
             self.queue(pile, c, Change::Recheck);
         }
     }
@@ -135,7 +123,7 @@ impl<'a, K: GradeKind> OpenBoard<'a, K> {
                 token: lowered,
             });
         }
-        if lowered.concept as usize >= self.counts.concepts {
+        if usize::from(lowered.concept) >= self.counts.concepts {
             return Err(Refused {
                 rejection: Rejection::UnfitLease,
                 token: lowered,

@@ -147,7 +147,10 @@ impl<'w, 'a, 't, K: GradeKind, P: Pile> Session<'w, 'a, 't, K, P> {
         requires { Placed (terms_of self.old.terms.now) partners }
         ensures { SessionDrawn K.GradeKind.kind P.Pile.numbers (λ v. ByJoin v K.GradeKind.kind (board_of self.old.board.now).done partners join) self.old self.new }
     {
-        if self.terms.is_below(join.link as usize, join.implication as usize) {
+        if self
+            .terms
+            .is_below(join.link as usize, join.implication as usize)
+        {
             self.draw_partners(partners, Head::Direct, join.grade);
             self.draw_roles(partners, join);
         }
@@ -166,11 +169,14 @@ impl<'w, 'a, 't, K: GradeKind, P: Pile> Session<'w, 'a, 't, K, P> {
                 role,
                 filler: link.filler,
             };
-            self.draw_join(partners, Join {
-                link: link.role,
-                implication: role,
-                grade: link.grade,
-            });
+            self.draw_join(
+                partners,
+                Join {
+                    link: link.role,
+                    implication: role,
+                    grade: link.grade,
+                },
+            );
         }
     }
 
@@ -186,11 +192,14 @@ impl<'w, 'a, 't, K: GradeKind, P: Pile> Session<'w, 'a, 't, K, P> {
                     by: x,
                     right: implication.right,
                 };
-                self.draw_join(partners, Join {
-                    link: r,
-                    implication: implication.role,
-                    grade: implication.grade,
-                });
+                self.draw_join(
+                    partners,
+                    Join {
+                        link: r,
+                        implication: implication.role,
+                        grade: implication.grade,
+                    },
+                );
             }
         }
     }

@@ -1,11 +1,10 @@
 //! Raising the found grade of a fact.
-ghost use Rattle.std.specs.Prelude.{◌≡◌};
 ghost use Rattle.terms.specs.Views.{terms_of};
 ghost use Rattle.reasoning.specs.Derivations.{Fits};
 ghost use Rattle.board.specs.Views.{moment_of};
 ghost use Rattle.board.specs.Frames.{Kept};
 ghost use Rattle.board.specs.Raises.{Called, Gains};
-ghost use Rattle.board.specs.Sessions.{SessionDrawn};
+ghost use Rattle.board.specs.Sessions.{SameSession, SessionDrawn};
 
 use super::session::Session;
 use super::states::Change;
@@ -19,9 +18,7 @@ impl<'w, 'a, 't, K: GradeKind, P: Pile> Session<'w, 'a, 't, K, P> {
     /// Queues the idle concepts at which a job of the fact stands.
     fn call(&mut self, fact: Fact)
         requires { Fits self.old.board.now.counts.concepts self.old.board.now.counts.roles fact }
-        ensures board { self.new.board.ghost_name ≡ self.old.board.ghost_name }
-        ensures pile { self.new.pile.ghost_name ≡ self.old.pile.ghost_name }
-        ensures terms { self.new.terms.now ≡ self.old.terms.now }
+        ensures same { SameSession self.old self.new }
         ensures kept { Kept P.Pile.numbers self.old.board.now self.old.pile.now self.new.board.now self.new.pile.now }
         ensures called { Called (terms_of self.old.terms.now) fact (moment_of P.Pile.numbers self.old.board.now self.old.pile.now) (moment_of P.Pile.numbers self.new.board.now self.new.pile.now) }
     {

@@ -33,7 +33,7 @@ impl<'a, K: GradeKind> OpenBoard<'a, K> {
         ensures { Exhausted (terms_of terms.now) K.GradeKind.kind P.Pile.numbers c budget result self.old pile.old self.new pile.new }
     {
         for steps in 0..budget {
-            if let None = self.work(terms, pile, c) {
+            if self.work(&*terms, pile, c).is_none() {
                 return steps;
             }
         }
@@ -47,6 +47,7 @@ impl<'a, K: GradeKind> OpenBoard<'a, K> {
         ensures { Turned (terms_of terms.now) K.GradeKind.kind P.Pile.numbers lease.concept budget result self.old pile.old self.new pile.new }
     {
         let steps = self.exhaust(terms, pile, lease.concept, budget);
+        // A `let .. else` is refused here: it would let the refused token go, and tokens are not `Drop`.
         match self.lower(lease) {
             Err(_) => unreachable(),
             Ok(lowered) => match self.recheck(terms, pile, lowered) {
@@ -76,13 +77,13 @@ impl<'a, K: GradeKind> OpenBoard<'a, K> {
                     steps,
                 });
             }
-            match self.take(pile) {
-                Err(_) => return Ok(Ran {
+            let Ok(lease) = self.take(pile) else {
+                return Ok(Ran {
                     outcome: Outcome::Left,
                     steps,
-                }),
-                Ok(lease) => steps += self.turn(terms, pile, lease, budget - steps),
-            }
+                });
+            };
+            steps += self.turn(terms, pile, lease, budget - steps);
         }
         Ok(Ran {
             outcome: Outcome::Finished,

@@ -1,14 +1,14 @@
 //! Doing a job.
 ghost use Rattle.std.specs.Prelude.{◌≡◌, ◌<◌, length, MatchOption};
 ghost use Rattle.terms.specs.Views.{terms_of};
-ghost use Rattle.reasoning.specs.Derivations.{Fits, Within, fact_of};
+ghost use Rattle.reasoning.specs.Derivations.{Fits, fact_of};
 ghost use Rattle.saturation.specs.declared.State.TheVariants.{Held};
 ghost use Rattle.saturation.specs.Boards.{QuietAt};
 ghost use Rattle.board.specs.Views.{board_of, moment_of};
 ghost use Rattle.board.specs.Frames.{Kept};
-ghost use Rattle.board.specs.Raises.{Ready, Drawn};
+ghost use Rattle.board.specs.Raises.{Ready};
 ghost use Rattle.board.specs.JoinDraws.{ByJob};
-ghost use Rattle.board.specs.Sessions.{SessionDrawn};
+ghost use Rattle.board.specs.Sessions.{SameSession, SessionDrawn};
 ghost use Rattle.board.specs.Deeds.{Did};
 
 use super::OpenBoard;
@@ -25,7 +25,7 @@ use terms::terms::Terms;
 
 impl<'w, 'a, 't, K: GradeKind, P: Pile> Session<'w, 'a, 't, K, P> {
     /// Draws all that a job draws, at the points of a grade.
-    fn draw_job(&mut self, job: Job, grade: u16)
+    fn draw(&mut self, job: Job, grade: u16)
         requires { Fits self.old.board.now.counts.concepts self.old.board.now.counts.roles (fact_of job) }
         ensures { SessionDrawn K.GradeKind.kind P.Pile.numbers (λ v. ByJob v K.GradeKind.kind (board_of self.old.board.now).done job grade) self.old self.new }
     {
@@ -49,37 +49,44 @@ impl<'w, 'a, 't, K: GradeKind, P: Pile> Session<'w, 'a, 't, K, P> {
             }),
         }
     }
-}
-
-impl<'a, K: GradeKind> OpenBoard<'a, K> {
-    /// Draws all that a job draws, at the points of a grade.
-    fn draw<'w, P: Pile>(&'w mut self, terms: &'w Terms, pile: &'w mut P, job: Job, grade: u16)
-        requires ready { Ready (terms_of terms.now) P.Pile.numbers self.old pile.old }
-        requires within { Within (terms_of terms.now) (fact_of job) }
-        ensures { Drawn (terms_of terms.now) K.GradeKind.kind P.Pile.numbers (ByJob (terms_of terms.now) K.GradeKind.kind (board_of self.old).done job grade) self.old pile.old self.new pile.new }
-    {
-        let mut session = Session {
-            board: self,
-            terms,
-            pile,
-        };
-        session.draw_job(job, grade);
-    }
 
     /// Does the first job that waits at `c`, which is held. The job is marked done before anything is drawn: a conjunction of a
     /// concept with itself has it as both premises.
-    pub(crate) fn work<P: Pile>(&mut self, terms: &Terms, pile: &mut P, c: u16) -> Option<Job>
+    fn work(&mut self, c: u16) -> Option<Job>
+        requires left { c < self.old.board.now.counts.concepts }
+        requires held { (board_of self.old.board.now).state c ≡ Held }
+        ensures same { SameSession self.old self.new }
+        ensures kept { Kept P.Pile.numbers self.old.board.now self.old.pile.now self.new.board.now self.new.pile.now }
+        ensures work { MatchOption result (QuietAt (terms_of self.old.terms.now) (board_of self.old.board.now) c × (self.new.board.now ≡ self.old.board.now) × (self.new.pile.now ≡ self.old.pile.now)) (λ j. Did (terms_of self.old.terms.now) K.GradeKind.kind c j (moment_of P.Pile.numbers self.old.board.now self.old.pile.now) (moment_of P.Pile.numbers self.new.board.now self.new.pile.now)) }
+    {
+        let job = self.board.first(self.terms, c)?;
+        let grade = self.board.found(fact_of(job));
+        self.board.write_done(job, grade);
+        self.draw(job, grade);
+        self.board.steps = self.board.steps.saturating_add(1);
+        Some(job)
+    }
+}
+
+impl<'a, K: GradeKind> OpenBoard<'a, K> {
+    /// Does the first job that waits at `c`, which is held.
+    pub(crate) fn work<'w, P: Pile>(
+        &'w mut self,
+        terms: &'w Terms,
+        pile: &'w mut P,
+        c: u16,
+    ) -> Option<Job>
         requires ready { Ready (terms_of terms.now) P.Pile.numbers self.old pile.old }
         requires left { c < length (terms_of terms.now).concepts }
         requires held { (board_of self.old).state c ≡ Held }
         ensures kept { Kept P.Pile.numbers self.old pile.old self.new pile.new }
         ensures work { MatchOption result (QuietAt (terms_of terms.now) (board_of self.old) c × (self.new ≡ self.old) × (pile.new ≡ pile.old)) (λ j. Did (terms_of terms.now) K.GradeKind.kind c j (moment_of P.Pile.numbers self.old pile.old) (moment_of P.Pile.numbers self.new pile.new)) }
     {
-        let job = self.first(terms, c)?;
-        let grade = self.found(fact_of(job));
-        self.write_done(job, grade);
-        self.draw(terms, pile, job, grade);
-        self.steps = self.steps.saturating_add(1);
-        Some(job)
+        let mut session = Session {
+            board: self,
+            terms,
+            pile,
+        };
+        session.work(c)
     }
 }

@@ -13,10 +13,10 @@ review-requires g c = let R = c.in_default.ensures in record { ready = R; left =
 pub returns-in-Err : goal.returns-in-Err
 returns-in-Err g c = record { kept = kept_same; sane = λ S. S; rechecked = (RecheckRejected.unready c.in-Err.ensures, refl, refl, refl) }
 
-pub returns-then-lowered-self : goal.returns-then-lowered-self
-returns-then-lowered-self g c =
+pub returns-then-from-self : goal.returns-then-from-self
+returns-then-from-self g c =
     let R = c.in_default.ensures in
-    record { kept = kept_same; sane = λ S. S; rechecked = (RecheckRejected.unfit_lease (R.concepts, R.roles) R.wide (omega arith), refl, refl, refl) }
+    record { kept = kept_same; sane = λ S. S; rechecked = (RecheckRejected.unfit_lease (R.concepts, R.roles) R.wide (omega (arith, c.from.ensures)), refl, refl, refl) }
 
 pub returns : goal.returns
 returns g c =

@@ -1,9 +1,12 @@
-use Rattle.std.proofs.Common.{length, sym, refl, subst₂, arith}
+use Rattle.std.proofs.Common.{length, sym, refl, subst, subst₂, arith}
 use Rattle.std.proofs.lemmas.Result.{err_from_is_err_and}
 use Rattle.terms.specs.Views.{terms_of}
 use Rattle.saturation.specs.Boards.{Sane}
 use Rattle.board.specs.Views.{board_of, moment_of}
+use Rattle.rejections.specs.declared.Rejection.TheVariants.{NothingWaits}
 use Rattle.board.specs.Refusals.{StepRejected}
+use Rattle.board.specs.Calls.{StaysSane, Stepped}
+use Rattle.board.proofs.Options.{ok_or_cases}
 use Rattle.board.proofs.Frames.{kept_same}
 use Rattle.board.proofs.Shifting.{sane_is}
 use Rattle.board.proofs.AsStated.{as_stated, still_sane}
@@ -25,29 +28,26 @@ returns-then-not-is_held g c =
     let R = c.in_ok-admit.ensures in
     record { kept = kept_same; sane = λ S. S; stepped = (StepRejected.unfit_lease (R.concepts, R.roles) R.wide (c.if-not-is_held.ensures.free refl), refl, refl) }
 
-pub returns-in-Some : goal.returns-in-Some
-returns-in-Some g c =
+pub returns : goal.returns
+returns g c =
     let v = terms_of c.args.terms.now in
     let k = g.K.GradeKind.kind in
+    let L = g.met.K.GradeKind.lawful in
     let numbers = g.P.Pile.numbers in
+    let x = c.args.lease.now.concept in
     let a = c.args.self.now in
+    let b = c.work.new.self in
+    let q = c.work.new.pile in
     let A = moment_of numbers a c.args.pile.now in
-    let B = moment_of numbers c.work.new.self c.work.new.pile in
+    let B = moment_of numbers b q in
     let R = c.in_ok-admit.ensures in
-    let D = c.in-Some.ensures.work in
     let to : Sane a.counts.concepts a.counts.roles k (board_of a) → Sane (length v.concepts) v.roles k (board_of a) = subst₂ (λ n m. Sane n m k (board_of a)) R.concepts R.roles in
-    record {
-      kept = c.in-Some.ensures.kept;
-      sane = λ S. subst₂ (λ n m. Sane n m k (board_of c.work.new.self)) (sym R.concepts) (sym R.roles) (still_sane v k g.met.K.GradeKind.lawful c.args.lease.now.concept c.in-Some.job A B D (to S));
-      stepped = (R, λ S. as_stated v k g.met.K.GradeKind.lawful c.args.lease.now.concept c.in-Some.job A B D (to S));
-    }
-
-pub returns-in-None : goal.returns-in-None
-returns-in-None g c =
-    let R = c.in_ok-admit.ensures in
-    let W = c.in-None.ensures.work in
-    record {
-      kept = c.in-None.ensures.kept;
-      sane = sane_is W.1 g.K.GradeKind.kind;
-      stepped = (StepRejected.nothing_waits (R.concepts, R.roles) R.wide (c.if-not-is_held.ensures.held refl) W.0, W.1, W.2);
-    }
+    let both : StaysSane k a b × Stepped v k numbers c.args.lease.now a c.args.pile.now b q c.ok_or.result =
+    subst (λ r. StaysSane k a b × Stepped v k numbers c.args.lease.now a c.args.pile.now b q r) (sym c.ok_or.ensures.value)
+    (ok_or_cases (λ r. StaysSane k a b × Stepped v k numbers c.args.lease.now a c.args.pile.now b q r) c.work.result NothingWaits c.work.ensures.work
+    (λ W. (sane_is W.1 k, (StepRejected.nothing_waits (R.concepts, R.roles) R.wide (c.if-not-is_held.ensures.held refl) W.0, W.1, W.2)))
+    (λ j D. (
+      λ S. subst₂ (λ n m. Sane n m k (board_of b)) (sym R.concepts) (sym R.roles) (still_sane v k L x j A B D (to S)),
+      (R, λ S. as_stated v k L x j A B D (to S)),
+    ))) in
+    record { kept = c.work.ensures.kept; sane = both.0; stepped = both.1 }

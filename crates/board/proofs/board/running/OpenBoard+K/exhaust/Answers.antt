@@ -1,5 +1,6 @@
 use Rattle.std.proofs.Common.{arith}
 use Rattle.terms.specs.Views.{terms_of}
+use Rattle.board.proofs.Options.{some_of, none_of}
 use Rattle.board.proofs.Frames.{ready_kept}
 use Rattle.board.proofs.Running.{ongoing_none, ongoing_more, ongoing_quiet, ongoing_spent}
 use Rattle.board.proofs.board.running.OpenBoard+K.exhaust.Goals as goal
@@ -13,13 +14,14 @@ loop-steps-init g c =
 
 pub loop-steps-preserved : goal.loop-steps-preserved
 loop-steps-preserved g c =
+    let job = some_of _ c.work.result c.if-is_none.ensures c.work.ensures.work in
     ongoing_more (terms_of c.args.terms.now) g.K.GradeKind.kind g.met.K.GradeKind.lawful g.P.Pile.numbers c.args.c c.args.self.now c.args.pile.now c.requires.ready
     c.loop-steps.steps c.loop-steps.self c.loop-steps.pile c.loop-steps.invariant
-    c.in_default.field-0 c.work.new.self c.work.new.pile c.in_default.ensures.kept c.in_default.ensures.work
+    job.0 c.work.new.self c.work.new.pile c.work.ensures.kept job.1
 
-pub returns-in-None : goal.returns-in-None
-returns-in-None g c =
-    let W = c.in-None.ensures.work in
+pub returns-then-is_none : goal.returns-then-is_none
+returns-then-is_none g c =
+    let W = none_of _ c.work.result c.if-is_none.ensures c.work.ensures.work in
     ongoing_quiet (terms_of c.args.terms.now) g.K.GradeKind.kind g.met.K.GradeKind.lawful g.P.Pile.numbers c.args.c c.args.self.now c.args.pile.now c.requires.ready
     c.loop-steps.steps c.loop-steps.self c.loop-steps.pile c.loop-steps.invariant
     c.args.budget c.work.new.self c.work.new.pile c.loop-steps-test.true W.0 W.1 W.2

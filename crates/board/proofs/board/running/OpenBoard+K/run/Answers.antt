@@ -51,10 +51,10 @@ returns-then-steps-budget g c =
       );
     }
 
-pub returns-in-Err : goal.returns-in-Err
-returns-in-Err g c =
+pub returns-in_default : goal.returns-in_default
+returns-in_default g c =
     let O = c.loop-budget.invariant in
-    let T = c.in-Err.ensures in
+    let T = c.in_default.ensures in
     let l : c.loop-budget.steps < c.args.budget = omega (arith, O.spent, c.if-steps-budget.false) in
     record {
       kept = kept_then O.kept T.kept;

@@ -48,9 +48,7 @@ returns-in_default g c =
     let A : Moment = moment_of g.P.Pile.numbers s.board.now s.pile.now in
     let B : Moment = moment_of g.P.Pile.numbers c.queue.new.self c.queue.new.pile in
     record {
-      board = refl;
-      pile = refl;
-      terms = refl;
+      same = record { board = refl; pile = refl; terms = refl };
       kept = c.queue.ensures.kept;
       called = subst (λ f. Called v f A B) (sym c.in-Under.is) (called_one v (under n d) s.board.now.counts.concepts s.board.now.counts.roles n A B
           s.ready.concepts s.ready.roles

@@ -14,4 +14,4 @@ returns-then-near-known g c =
     session_guarded g.met.K.GradeKind.lawful {G = λ _. c.args.near ≡ o.right} c.if-near-known.true
     (session_at (λ _ u. Gains k (under o.left c.args.x) u) (λ _. k.meet o.grade ((board_of c.args.self.now.board.now).done (own o.left c.args.far)))
     (c.meet.ensures ∙ ap (k.meet o.grade) c.done-h.ensures) c.raise.ensures) in
-    record { board = D.board; pile = D.pile; terms = D.terms; drawn = D.drawn }
+    record { same = record { board = D.same.board; pile = D.same.pile; terms = D.same.terms }; drawn = D.drawn }

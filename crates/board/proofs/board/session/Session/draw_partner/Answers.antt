@@ -13,4 +13,4 @@ returns-then-met-none g c =
     session_at (λ _ u. Gains k f u) (λ _. k.meet c.args.grade ((board_of c.args.self.now.board.now).done (partner c.args.partners c.args.i)))
     (c.meet-met.ensures ∙ ap (k.meet c.args.grade) (c.done.ensures ∙ ap (board_of c.args.self.now.board.now).done c.job.ensures))
     (session_at (λ _ h. Gains k h c.meet-met.result) (λ _. f) c.fact.ensures c.raise.ensures) in
-    record { board = D.board; pile = D.pile; terms = D.terms; drawn = D.drawn }
+    record { same = record { board = D.same.board; pile = D.same.pile; terms = D.same.terms }; drawn = D.drawn }

@@ -10,8 +10,8 @@ pub draw_partner-requires : goal.draw_partner-requires
 draw_partner-requires g c =
     let I = c.loop-i.invariant in
     record {
-      placed = subst (λ t. Placed (terms_of t) c.args.partners) (sym I.terms) c.requires.placed;
-      heads = subst (λ t. Heads (terms_of t) c.args.head) (sym I.terms) c.requires.heads;
+      placed = subst (λ t. Placed (terms_of t) c.args.partners) (sym I.same.terms) c.requires.placed;
+      heads = subst (λ t. Heads (terms_of t) c.args.head) (sym I.same.terms) c.requires.heads;
       number = omega (arith, I.drawn.kept.frame.concepts, c.args.self.now.ready.concepts, ap length c.concepts-i-end.ensures);
     }
 

@@ -16,7 +16,7 @@ pub draw_partners-requires : goal.draw_partners-requires
 draw_partners-requires g c =
     let I = c.loop-t.invariant in
     record {
-      placed = subst (λ t. Placed (terms_of t) c.args.partners) (sym I.terms) c.requires;
+      placed = subst (λ t. Placed (terms_of t) c.args.partners) (sym I.same.terms) c.requires;
       heads = omega (arith, I.drawn.kept.frame.roles, c.args.self.now.ready.roles, c.loop-t.self.ready.roles);
     }
 
@@ -38,10 +38,10 @@ loop-t-preserved g c =
     let I = c.loop-t.invariant in
     let same : (i : Job) → Within v (fact_of i) → next i ≡ first i = I.drawn.raises.done in
     let turn : SessionDrawn k N (λ _. ByRole v k first ps j t) a c.if-is_below.self =
-      elim c.if-is_below.branch [
+    elim c.if-is_below.branch [
       | then-is_below+then-is_below-2+then-is_transitive w ↦
           subst (λ b. SessionDrawn k N (λ _. ByRole v k first ps j t) a b) (sym w.self-is)
-          (session_alike L (session_moved c.args.self.now I.terms w.draw_partners.ensures)
+          (session_alike L (session_moved c.args.self.now I.same.terms w.draw_partners.ensures)
           (λ f x h. ((sym w.if-is_below.ensures, sym w.if-is_below-2.ensures, sym w.if-is_transitive.ensures), partners_done v k next first ps (Through t) j.grade c.requires same f x h))
           (λ f x h. partners_done v k first next ps (Through t) j.grade c.requires (λ i u. sym (same i u)) f x h.1))
       | else-is_below w ↦

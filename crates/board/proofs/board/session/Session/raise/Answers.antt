@@ -22,9 +22,7 @@ returns-then-new-old g c =
     subst (λ u. Wrote (length v.concepts) v.roles f u (board_of a) (board_of b)) new
     (subst₂ (λ n m. Wrote n m f c.join-new.result (board_of a) (board_of b)) s.ready.concepts s.ready.roles c.write_found.ensures.wrote) in
     record {
-      board = c.call.ensures.board;
-      pile = c.call.ensures.pile;
-      terms = c.call.ensures.terms;
+      same = record { board = c.call.ensures.same.board; pile = c.call.ensures.same.pile; terms = c.call.ensures.same.terms };
       drawn = record {
         kept = kept_framed c.write_found.ensures.frame c.call.ensures.kept;
         raises = raises_new v k g.met.K.GradeKind.lawful f c.args.g (moment_of held a s.pile.now) (moment_of held b s.pile.now) (moment_of held c.call.new.self.board.now c.call.new.self.pile.now)

@@ -8,7 +8,7 @@ use Rattle.board.specs.Views.{board_of}
 use Rattle.board.specs.JoinDraws.{ByJob, ByLinked}
 use Rattle.board.proofs.Raising.{filler_below}
 use Rattle.board.proofs.Sessions.{in_terms, on_board, session_at}
-use Rattle.board.proofs.board.session.Session.draw_job.Goals as goal
+use Rattle.board.proofs.board.session.Session.draw.Goals as goal
 
 pub draw_link-requires : goal.draw_link-requires
 draw_link-requires g c =
