@@ -1,8 +1,9 @@
-//! From an input to an output: a text is read to its end, and its listing, or the line that says why there is none, is written. No contract
-//! can speak of what comes in and what goes out, so this is as thin as it can be, and is tested.
+//! From an input to an output: a text is read to its end, and its listing, or the line that says why there is none, is written.
 #![tactic(auto)]
 
-ghost use Rattle.std.specs.Prelude.{◌≤◌, length, IfOk};
+ghost use Rattle.std.specs.Prelude.{◌≤◌, ◌<◌, length, take, IfOk, OnOk};
+ghost use Rattle.std.specs.Io.KnownBytes.{Consumes, IsAtEnd};
+ghost use Rattle.console.specs.Printing.{Printing};
 
 use listing::text::{PAGE, list};
 use std::io;
@@ -13,13 +14,12 @@ const BUFFER: usize = 4001;
 
 /// Reads until the input ends or the buffer is full, and says how many bytes came.
 fn fill<R: Read>(input: &mut R, buffer: &mut [u8]) -> io::Result<usize>
-    ensures { IfOk result (λ n. n ≤ length buffer.old) }
+    ensures bound { IfOk result (λ n. n ≤ length buffer.new) }
+    ensures bytes { IfOk result (λ n. Consumes (R.remaining input.old) (R.remaining input.new) (take n buffer.new)) }
+    ensures end { IfOk result (λ n. n < length buffer.new → IsAtEnd (R.remaining input.new)) }
 {
     let mut filled = 0;
-    for _ in 0..u64::MAX {
-        if filled >= buffer.len() {
-            break;
-        }
+    while filled < buffer.len() {
         let got = input.read(&mut buffer[filled..])?;
         if got == 0 {
             break;
@@ -29,13 +29,16 @@ fn fill<R: Read>(input: &mut R, buffer: &mut [u8]) -> io::Result<usize>
     Ok(filled)
 }
 
-/// Reads a term sheet and writes the listing of its classification, or the line that says why there is none.
-pub fn print_listing<R: Read, W: Write>(input: &mut R, output: &mut W) -> io::Result<()> {
+/// Reads a term sheet and writes the listing of its classification, or the line that says why there is none. Of a text above 4,001 bytes
+/// no more than these are read; an error of the input or the output is handed on.
+pub fn print_listing<R: Read, W: Write>(input: &mut R, output: &mut W) -> io::Result<()>
+    ensures { OnOk result (Printing (R.remaining input.old) (R.remaining input.new) (W.contents output.old) (W.contents output.new)) }
+{
     let mut buffer = [0; BUFFER];
     let length = fill(input, &mut buffer)?;
     let mut page = [0; PAGE];
-    match list(&buffer[0..length], &mut page) {
-        Ok(size) => output.write_all(&page[0..size]),
+    match list(&buffer[..length], &mut page) {
+        Ok(size) => output.write_all(&page[..size]),
         Err(trouble) => output.write_all(&trouble.line()),
     }
 }
