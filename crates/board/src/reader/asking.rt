@@ -6,6 +6,7 @@ mod picking;
 use super::reading::Reading;
 
 /// What is asked of a concept.
+// An enum and no closure: the public contracts name what was asked, and a closure would stand in each of them with the test that it runs.
 #[derive(Clone, Copy)]
 pub(crate) enum Question {
     /// Its mates: the other named concepts, each under the other.

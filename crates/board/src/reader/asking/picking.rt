@@ -103,6 +103,7 @@ impl<'b, K: GradeKind> Asked<'b, K> {
         requires { length (picked (wanted K.GradeKind.kind self.now) self.now.board.reader.counts.concepts) ≤ length list.old }
         ensures { list.new ≡ picked (wanted K.GradeKind.kind self.now) self.now.board.reader.counts.concepts ++ drop (length (picked (wanted K.GradeKind.kind self.now) self.now.board.reader.counts.concepts)) list.old }
     {
+        // Tried: over a filtered range with `enumerate` the check refuses the loop's own goals (`iterator-loop-place`: expected `RattleType`).
         let mut filled = 0;
         for b in 0..self.board.reader.counts.concepts as u16 {
             if self.is_wanted(b) {
