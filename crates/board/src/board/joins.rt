@@ -15,6 +15,7 @@ use reasoning::{Fact, Job};
 use terms::records::Concept;
 
 /// The jobs that can be the other premise, where one premise is given. Each goes by the number of a concept.
+// An enum and no closure, since the contracts name it; that its numbers are `Placed` stays a clause, since it has no terms to name.
 #[derive(Clone, Copy)]
 pub(crate) enum Partners {
     /// Given a link from `left`: the implications by `role` at `filler`, by their right concepts.
@@ -24,6 +25,7 @@ pub(crate) enum Partners {
 }
 
 /// Which of the two rules is used.
+// An enum and no closure, since the contracts name it.
 #[derive(Clone, Copy)]
 pub(crate) enum Head {
     /// The left concept is under the right one.

@@ -12,6 +12,7 @@ use reasoning::{Fact, Job};
 use terms::records::Concept;
 
 /// What an own job brings: its left concept is under its right one, at the points of a grade.
+// That `left` is below the count stays a clause: a ghost field here cannot name the board's count.
 #[derive(Clone, Copy)]
 pub(crate) struct Known {
     pub(crate) left: u16,
@@ -77,6 +78,7 @@ impl<'w, 'a, 't, K: GradeKind, P: Pile> Session<'w, 'a, 't, K, P> {
         requires { known.left < self.old.board.now.counts.concepts }
         ensures { SessionDrawn K.GradeKind.kind P.Pile.numbers (λ v. AnyBelow (length v.concepts) (ByConcept v K.GradeKind.kind (board_of self.old.board.now).done known)) self.old self.new }
     {
+        // By number: the concept beside it would be one more parameter, with a clause that it is the concept of that number.
         for x in 0..self.terms.concepts().len() {
             self.draw_concept(known, x as u16);
         }

@@ -8,8 +8,10 @@ ghost use Rattle.board.specs.Raises.{Ready};
 ghost use Rattle.board.specs.Refusals.{IsHeld};
 ghost use Rattle.board.specs.Calls.{StaysSane, RanBy};
 ghost use Rattle.board.specs.Running.{Exhausted, Turned};
+ghost use Rattle.board.specs.Sessions.{SameSession};
 
 use super::OpenBoard;
+use super::session::Session;
 use crate::tokens::Lease;
 use grades::kind::GradeKind;
 use piles::pile::Pile;
@@ -24,16 +26,16 @@ pub struct Ran {
     pub steps: u64,
 }
 
-impl<'a, K: GradeKind> OpenBoard<'a, K> {
+impl<'w, 'a, 't, K: GradeKind, P: Pile> Session<'w, 'a, 't, K, P> {
     /// Steps at `c`, which is held, until no job waits there or the budget is used, and says how often.
-    fn exhaust<P: Pile>(&mut self, terms: &Terms, pile: &mut P, c: u16, budget: u64) -> u64
-        requires ready { Ready (terms_of terms.now) P.Pile.numbers self.old pile.old }
-        requires left { c < length (terms_of terms.now).concepts }
-        requires held { (board_of self.old).state c ≡ Held }
-        ensures { Exhausted (terms_of terms.now) K.GradeKind.kind P.Pile.numbers c budget result self.old pile.old self.new pile.new }
+    fn exhaust(&mut self, c: u16, budget: u64) -> u64
+        requires left { c < self.old.board.now.counts.concepts }
+        requires held { (board_of self.old.board.now).state c ≡ Held }
+        ensures same { SameSession self.old self.new }
+        ensures exhausted { Exhausted (terms_of self.old.terms.now) K.GradeKind.kind P.Pile.numbers c budget result self.old.board.now self.old.pile.now self.new.board.now self.new.pile.now }
     {
         for steps in 0..budget {
-            if self.work(&*terms, pile, c).is_none() {
+            if self.work(c).is_none() {
                 return steps;
             }
         }
@@ -41,20 +43,42 @@ impl<'a, K: GradeKind> OpenBoard<'a, K> {
     }
 
     /// Steps at the lease's concept, lowers the lease and rechecks, and says how many steps that took.
-    fn turn<P: Pile>(&mut self, terms: &Terms, pile: &mut P, lease: Lease, budget: u64) -> u64
-        requires ready { Ready (terms_of terms.now) P.Pile.numbers self.old pile.old }
-        requires held { IsHeld self.old.counts.concepts (board_of self.old) lease.concept }
-        ensures { Turned (terms_of terms.now) K.GradeKind.kind P.Pile.numbers lease.concept budget result self.old pile.old self.new pile.new }
+    fn turn(&mut self, lease: Lease, budget: u64) -> u64
+        requires { IsHeld self.old.board.now.counts.concepts (board_of self.old.board.now) lease.concept }
+        ensures same { SameSession self.old self.new }
+        ensures turned { Turned (terms_of self.old.terms.now) K.GradeKind.kind P.Pile.numbers lease.concept budget result self.old.board.now self.old.pile.now self.new.board.now self.new.pile.now }
     {
-        let steps = self.exhaust(terms, pile, lease.concept, budget);
+        let steps = self.exhaust(lease.concept, budget);
         // A `let .. else` is refused here: it would let the refused token go, and tokens are not `Drop`.
-        match self.lower(lease) {
+        match self.board.lower(lease) {
             Err(_) => unreachable(),
-            Ok(lowered) => match self.recheck(terms, pile, lowered) {
+            Ok(lowered) => match self.board.recheck(self.terms, self.pile, lowered) {
                 Err(_) => unreachable(),
                 Ok(()) => steps,
             },
         }
+    }
+}
+
+impl<'a, K: GradeKind> OpenBoard<'a, K> {
+    /// Steps at the lease's concept, lowers the lease and rechecks, and says how many steps that took.
+    fn turn<'w, P: Pile>(
+        &'w mut self,
+        terms: &'w Terms,
+        pile: &'w mut P,
+        lease: Lease,
+        budget: u64,
+    ) -> u64
+        requires ready { Ready (terms_of terms.now) P.Pile.numbers self.old pile.old }
+        requires held { IsHeld self.old.counts.concepts (board_of self.old) lease.concept }
+        ensures { Turned (terms_of terms.now) K.GradeKind.kind P.Pile.numbers lease.concept budget result self.old pile.old self.new pile.new }
+    {
+        let mut session = Session {
+            board: self,
+            terms,
+            pile,
+        };
+        session.turn(lease, budget)
     }
 
     /// Takes, steps, lowers and rechecks until no job waits, the budget of steps is used, or there is nothing to take.
@@ -83,7 +107,7 @@ impl<'a, K: GradeKind> OpenBoard<'a, K> {
                     steps,
                 });
             };
-            steps += self.turn(terms, pile, lease, budget - steps);
+            steps += self.turn(&*terms, pile, lease, budget - steps);
         }
         Ok(Ran {
             outcome: Outcome::Finished,

@@ -1,4 +1,7 @@
 //! A board at work, with the terms and the pile that go with it.
+//!
+//! The borrow checker lets a session be lent only where its three parts have one lifetime with a name. The parameters of the public calls
+//! have lifetimes of their own, so these go through `OpenBoard::work` and `OpenBoard::turn`, which make a session and use it once.
 ghost use Rattle.terms.specs.Views.{terms_of};
 ghost use Rattle.board.specs.Raises.{Ready};
 

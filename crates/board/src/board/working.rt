@@ -52,7 +52,7 @@ impl<'w, 'a, 't, K: GradeKind, P: Pile> Session<'w, 'a, 't, K, P> {
 
     /// Does the first job that waits at `c`, which is held. The job is marked done before anything is drawn: a conjunction of a
     /// concept with itself has it as both premises.
-    fn work(&mut self, c: u16) -> Option<Job>
+    pub(super) fn work(&mut self, c: u16) -> Option<Job>
         requires left { c < self.old.board.now.counts.concepts }
         requires held { (board_of self.old.board.now).state c ≡ Held }
         ensures same { SameSession self.old self.new }

@@ -1,5 +1,5 @@
 use Rattle.std.proofs.Common.{◌≡◌, get_or, sym, arith}
-use Rattle.terms.specs.declared.records.Concept.TheVariants.{Atomic, Conjunction, Restriction}
+use Rattle.terms.specs.declared.records.Concept.TheVariants.{Atomic, Conjunction}
 use Rattle.terms.specs.Vocabularies.{Is}
 use Rattle.terms.specs.Views.{terms_of}
 use Rattle.terms.proofs.Formed.{well_formed}

@@ -4,7 +4,7 @@ use Rattle.terms.proofs.Formed.{well_formed}
 use Rattle.reasoning.specs.declared.Job.TheVariants.{Own as own}
 use Rattle.board.specs.Views.{board_of}
 use Rattle.board.specs.OwnDraws.{ByConcept}
-use Rattle.board.proofs.Sessions.{in_terms, on_board, rounds_none, rounds_more, rounds_all}
+use Rattle.board.proofs.Sessions.{in_terms, rounds_none, rounds_more, rounds_all}
 use Rattle.board.proofs.Shapes.{concept_done}
 use Rattle.board.proofs.board.session.Session.draw_concepts.Goals as goal
 

@@ -1,8 +1,5 @@
-use Rattle.std.proofs.Common.{◌≡◌, ◌<◌, length, sym, arith}
-use Rattle.grades.specs.Kinds.{Kind}
-use Rattle.terms.specs.Vocabularies.{Vocabulary}
+use Rattle.std.proofs.Common.{◌≡◌, sym, arith}
 use Rattle.terms.specs.Views.{terms_of}
-use Rattle.reasoning.specs.declared.Fact.{Fact}
 use Rattle.reasoning.specs.declared.Job.{Job}
 use Rattle.reasoning.specs.Derivations.{Within, fact_of}
 use Rattle.board.specs.declared.board.joins.Partners.{Partners}

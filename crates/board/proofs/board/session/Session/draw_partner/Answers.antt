@@ -1,4 +1,4 @@
-use Rattle.std.proofs.Common.{◌≡◌, ap, ◌∙◌}
+use Rattle.std.proofs.Common.{ap, ◌∙◌}
 use Rattle.board.specs.Views.{board_of}
 use Rattle.board.specs.Raises.{Gains}
 use Rattle.board.specs.JoinDraws.{partner, conclusion}

@@ -1,5 +1,5 @@
 use Rattle.std.proofs.Common.{get_or, sym, arith}
-use Rattle.terms.specs.declared.records.Concept.TheVariants.{Atomic, Conjunction}
+use Rattle.terms.specs.declared.records.Concept.TheVariants.{Atomic}
 use Rattle.terms.specs.Views.{terms_of}
 use Rattle.terms.proofs.Formed.{well_formed}
 use Rattle.reasoning.specs.declared.Fact.TheVariants.{Under as under}
