@@ -8,43 +8,31 @@ ghost use Rattle.cases.specs.Expectations.{BoardsAnswer};
 ghost use Rattle.cases.specs.Rounds.{ConclusionsDrawn, RoundsDerive, RoundsTell};
 
 /// The conclusions that a round adds are exactly what one use of a rule draws.
-pub fn conclusions_are_drawn_by_rules() -> u8
+pub fn conclusions_are_drawn_by_rules()
     ensures { ConclusionsDrawn }
-{
-    0
-}
+{}
 
 /// What rounds find is derivable, and all that is derivable if it has all its conclusions.
-pub fn rounds_find_what_is_derivable() -> u8
+pub fn rounds_find_what_is_derivable()
     ensures { RoundsDerive }
-{
-    0
-}
+{}
 
 /// What rounds find tells what every finite model says if it has all its conclusions.
-pub fn rounds_tell_the_truth() -> u8
+pub fn rounds_tell_the_truth()
     ensures { RoundsTell }
-{
-    0
-}
+{}
 
 /// A board on which no job waits answers the expected grades, and with one point it took the expected steps.
-pub fn finished_boards_answer_as_expected() -> u8
+pub fn finished_boards_answer_as_expected()
     ensures { BoardsAnswer }
-{
-    0
-}
+{}
 
 /// Every case of the table meets what it expects.
-pub fn worked_cases_hold() -> u8
+pub fn worked_cases_hold()
     ensures { WorkedCasesHold }
-{
-    0
-}
+{}
 
 /// Every further case of the second table meets what it expects.
-pub fn further_cases_hold() -> u8
+pub fn further_cases_hold()
     ensures { FurtherCasesHold }
-{
-    0
-}
+{}

@@ -29,44 +29,32 @@ pub enum Outcome {
 
 /// Whatever the number of workers and the order of calls: leases add up, no waiting job is out of sight, a quiet board says what every
 /// finite model says, its steps are bounded by the derivable pairs of job and point, and any two quiet boards found the same grades.
-pub fn any_order_gives_one_answer() -> u8
+pub fn any_order_gives_one_answer()
     ensures { AnyOrder }
-{
-    0
-}
+{}
 
 /// Whatever was called, in whatever order: under, mates and parents on a board on which no job waits are those of all finite models.
-pub fn quiet_answers_are_true() -> u8
+pub fn quiet_answers_are_true()
     ensures { QuietAnswersTrue }
-{
-    0
-}
+{}
 
 /// A run is a chain of the effects of the takes, steps, lowerings and rechecks inside it.
-pub fn runs_are_chains_of_effects() -> u8
+pub fn runs_are_chains_of_effects()
     ensures { RunsLead }
-{
-    0
-}
+{}
 
 /// A fresh board and one run with a budget of at least the possible pairs of job and point end as finished.
-pub fn fresh_runs_finish() -> u8
+pub fn fresh_runs_finish()
     ensures { FreshRunFinishes }
-{
-    0
-}
+{}
 
 /// After any list of calls, no queued concept is quiet.
-pub fn queued_concepts_have_work() -> u8
+pub fn queued_concepts_have_work()
     ensures { QueuedWaits }
-{
-    0
-}
+{}
 
 /// A fresh board is at rest, and whatever led to a board at rest, one run with a budget of at least the possible pairs of job and point ends
 /// as finished, with every concept idle and nothing in the pile.
-pub fn runs_finish() -> u8
+pub fn runs_finish()
     ensures { RunsFinish }
-{
-    0
-}
+{}
