@@ -43,12 +43,8 @@ returns c =
       kept = record { same = refl; kept = rest_written r.list.now r.head 0 (omega arith) };
     }
 
-pub returns-then-self-eq0 : goal.returns-then-self-eq0
-returns-then-self-eq0 c =
+pub returns-then-self-eq0-clause-set : goal.returns-then-self-eq0-clause-set
+returns-then-self-eq0-clause-set c =
     let r = c.args.self.now in
     let none : walk r.list.now r.head r.count ≡ [] = ap (walk r.list.now r.head) c.if-self-eq0.true in
-    record {
-      set = (refl, (λ y. sym (r.visits y) ∙ ap (has y) none), λ y. refl);
-      order = (none, none);
-      kept = record { same = refl; kept = refl };
-    }
+    (refl, (λ y. sym (r.visits y) ∙ ap (has y) none), λ y. refl)
