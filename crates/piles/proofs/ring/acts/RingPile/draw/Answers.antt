@@ -5,26 +5,11 @@ use Rattle.piles.proofs.Entries.{held_without, entry_of_held, rest_written}
 use Rattle.piles.proofs.Rings.{sound_of, head_on, head_below, drawn}
 use Rattle.piles.proofs.ring.acts.RingPile.draw.Goals as goal
 
-pub offset_bounds-self-first : goal.offset_bounds-self-first
-offset_bounds-self-first c = omega (arith, head_below c.args.self.now c.if-self-eq0.false)
-
-pub bounds-self-first : goal.bounds-self-first
-bounds-self-first c = omega (arith, head_below c.args.self.now c.if-self-eq0.false)
-
-pub offset_bounds-self-first-2 : goal.offset_bounds-self-first-2
-offset_bounds-self-first-2 c = omega (arith, head_below c.args.self.now c.if-self-eq0.false)
-
-pub bounds-self-first-2 : goal.bounds-self-first-2
-bounds-self-first-2 c = omega (arith, head_below c.args.self.now c.if-self-eq0.false)
-
 pub overflow_sub-self : goal.overflow_sub-self
 overflow_sub-self c =
     let r = c.args.self.now in
     let not-zero = entry_of_held r.list.now r.head (head_on r c.if-self-eq0.false) in
     omega arith
-
-pub overflow_cast-result : goal.overflow_cast-result
-overflow_cast-result c = omega (arith, head_below c.args.self.now c.if-self-eq0.false)
 
 pub invariant_of-self : goal.invariant_of-self
 invariant_of-self c =
