@@ -11,38 +11,36 @@ use Rattle.terms.proofs.Grown.{over_itself, pushed_front, pushed_long, pushed_ov
 use Rattle.terms.proofs.Preorder.{role_reflexive, role_transitive, role_on, flag_on}
 use Rattle.terms.proofs.terms.Terms.put.Goals as goal
 
-pub invariant_of-self-in-Role : goal.invariant_of-self-in-Role
-invariant_of-self-in-Role c =
+pub invariant_of-self-in-Role-clause-reflexive : goal.invariant_of-self-in-Role-clause-reflexive
+invariant_of-self-in-Role-clause-reflexive c =
     let s = c.args.self.now in
     let n = s.role_count in
     let long : length s.order ≡ 32 = search rules in
     let few : n < 32 = rw c.in-Role.is at c.requires in
-    let lt : n < length s.order = omega arith in
-    let e = sym (one_shl n 32 few) in
-    record {
-      fits = (omega arith, omega arith, omega arith);
-      earlier = (λ k h. (omega (arith, (s.earlier k h).0), omega (arith, (s.earlier k h).1)));
-      named = s.named;
-      reflexive = subst (λ w. Reflexive (n + 1) (set s.order n w)) e (role_reflexive n s.order lt s.on_roles s.reflexive);
-      chains = subst (λ w. Transitive (set s.order n w)) e (role_transitive n s.order lt s.on_roles s.chains);
-      on_roles = subst (λ w. OnRoles (n + 1) (set s.order n w)) e (role_on n s.order lt s.on_roles);
-      flagged = (λ a h. omega (arith, s.flagged a h));
-    }
+    subst (λ w. Reflexive (n + 1) (set s.order n w)) (sym (one_shl n 32 few)) (role_reflexive n s.order (omega arith) s.on_roles s.reflexive)
 
-pub invariant_of-self-in-Transitive : goal.invariant_of-self-in-Transitive
-invariant_of-self-in-Transitive c =
+pub invariant_of-self-in-Role-clause-chains : goal.invariant_of-self-in-Role-clause-chains
+invariant_of-self-in-Role-clause-chains c =
+    let s = c.args.self.now in
+    let n = s.role_count in
+    let long : length s.order ≡ 32 = search rules in
+    let few : n < 32 = rw c.in-Role.is at c.requires in
+    subst (λ w. Transitive (set s.order n w)) (sym (one_shl n 32 few)) (role_transitive n s.order (omega arith) s.on_roles s.chains)
+
+pub invariant_of-self-in-Role-clause-on_roles : goal.invariant_of-self-in-Role-clause-on_roles
+invariant_of-self-in-Role-clause-on_roles c =
+    let s = c.args.self.now in
+    let n = s.role_count in
+    let long : length s.order ≡ 32 = search rules in
+    let few : n < 32 = rw c.in-Role.is at c.requires in
+    subst (λ w. OnRoles (n + 1) (set s.order n w)) (sym (one_shl n 32 few)) (role_on n s.order (omega arith) s.on_roles)
+
+pub invariant_of-self-in-Transitive-clause-flagged : goal.invariant_of-self-in-Transitive-clause-flagged
+invariant_of-self-in-Transitive-clause-flagged c =
     let s = c.args.self.now in
     let r = c.in-Transitive.r in
     let there : r < s.role_count = rw c.in-Transitive.is at c.requires in
-    record {
-      fits = s.fits;
-      earlier = s.earlier;
-      named = s.named;
-      reflexive = s.reflexive;
-      chains = s.chains;
-      on_roles = s.on_roles;
-      flagged = subst (λ w. FlaggedRoles s.role_count (bit_or s.transitive w)) (sym (one_shl r 32 (omega arith))) (flag_on s.role_count s.transitive r there s.flagged);
-    }
+    subst (λ w. FlaggedRoles s.role_count (bit_or s.transitive w)) (sym (one_shl r 32 (omega arith))) (flag_on s.role_count s.transitive r there s.flagged)
 
 pub returns-in-Concept : goal.returns-in-Concept
 returns-in-Concept c =
