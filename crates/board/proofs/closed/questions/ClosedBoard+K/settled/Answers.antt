@@ -5,9 +5,6 @@ use Rattle.board.specs.Questions.{settled, other_terms, job_waits}
 use Rattle.board.proofs.closed.questions.ClosedBoard+K.settled.Goals as goal
 use Rattle.board.proofs.closed.questions.ClosedBoard+K.settled.Goals.{then-concepts-self-via-then-concepts-self, then-concepts-self-via-else-concepts-self+then-roles-self}
 
-pub any_waits-requires : goal.any_waits-requires
-any_waits-requires g c = record { concepts = c.reader.ensures.concepts ∙ sym c.if-concepts-self.false ∙ ap length c.concepts.ensures; roles = c.reader.ensures.roles ∙ sym c.if-roles-self.false ∙ c.roles.ensures }
-
 pub returns-then-concepts-self : goal.returns-then-concepts-self
 returns-then-concepts-self g c = elim c.then-concepts-self.branch [
   | then-concepts-self-via-then-concepts-self w ↦ other_terms (λ s. w.if-concepts-self.true (ap length c.concepts.ensures ∙ sym s.0))

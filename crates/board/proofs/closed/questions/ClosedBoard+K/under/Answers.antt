@@ -12,18 +12,16 @@ use Rattle.board.proofs.Questioned.{settled_of, under_truth}
 use Rattle.board.proofs.closed.questions.ClosedBoard+K.under.Goals as goal
 use Rattle.board.proofs.closed.questions.ClosedBoard+K.under.Goals.{then-not-is_named-via-then-not-is_named, then-not-is_named-via-else-not-is_named+then-d-self}
 
-pub returns-in_err-settled : goal.returns-in_err-settled
-returns-in_err-settled g c =
-    let p = err_from_is_err_and c.from_residual.result c.from_residual.ensures.1 in
-    rw (p.1, p.2) (record { answer = unsettled c.in_err-settled.ensures; truth = tt })
+pub returns-in_err-settled-clause-answer : goal.returns-in_err-settled-clause-answer
+returns-in_err-settled-clause-answer g c = let p = err_from_is_err_and c.from_residual.result c.from_residual.ensures.1 in rw (p.1, p.2) (unsettled c.in_err-settled.ensures)
 
-pub returns-then-not-is_named : goal.returns-then-not-is_named
-returns-then-not-is_named g c =
+pub returns-then-not-is_named-clause-answer : goal.returns-then-not-is_named-clause-answer
+returns-then-not-is_named-clause-answer g c =
     let v = terms_of c.args.terms.now in
     let s = settled_of c.in_ok-settled.was c.settled.ensures in
     elim c.then-not-is_named.branch [
-      | then-not-is_named-via-then-not-is_named w ↦ record { answer = no_concept s (λ i l. both_ways _ (sym c.is_named.ensures ∙ w.if-not-is_named.true) (is_named_lem v c.args.a i)); truth = tt }
-      | then-not-is_named-via-else-not-is_named+then-d-self w ↦ record { answer = no_concept s (λ i l. let e = s.0.0 in omega (arith, w.if-d-self.true)); truth = tt }
+      | then-not-is_named-via-then-not-is_named w ↦ no_concept s (λ i l. both_ways _ (sym c.is_named.ensures ∙ w.if-not-is_named.true) (is_named_lem v c.args.a i))
+      | then-not-is_named-via-else-not-is_named+then-d-self w ↦ no_concept s (λ i l. let e = s.0.0 in omega (arith, w.if-d-self.true))
     ]
 
 pub found-requires : goal.found-requires

@@ -1,24 +1,14 @@
 use Rattle.std.proofs.Common.{ℕ, Bool, sym, arith}
 use Rattle.board.specs.Asking.{wanted}
-use Rattle.board.proofs.Picking.{picked_short, room_for_one, written_more, written_none}
+use Rattle.board.proofs.Picking.{room_for_one, written_more, written_none}
 use Rattle.board.proofs.reader.asking.Asked.write_wanted.Goals as goal
 use Rattle.board.proofs.reader.asking.Asked.write_wanted.Goals.{then-is_wanted, else-is_wanted}
-
-pub offset_bounds-list-filled : goal.offset_bounds-list-filled
-offset_bounds-list-filled g c =
-    let f : ℕ → Bool = wanted g.K.GradeKind.kind c.args.self.now in
-    omega (arith, picked_short f c.loop-b.b)
 
 pub bounds-list-filled : goal.bounds-list-filled
 bounds-list-filled g c =
     let f : ℕ → Bool = wanted g.K.GradeKind.kind c.args.self.now in
     let room = room_for_one f c.loop-b.b c.args.self.now.board.reader.counts.concepts c.loop-b-test.true (sym c.if-is_wanted.ensures) in
     omega (arith, c.requires, c.loop-b.auto.list)
-
-pub overflow_add-filled : goal.overflow_add-filled
-overflow_add-filled g c =
-    let f : ℕ → Bool = wanted g.K.GradeKind.kind c.args.self.now in
-    omega (arith, picked_short f c.loop-b.b)
 
 pub loop-b-preserved : goal.loop-b-preserved
 loop-b-preserved g c =

@@ -10,15 +10,9 @@ either : (b : Bool) (A : Type 0) → (b ≡ true → A) → (b ≡ false → A) 
 either true A t f = t refl
 either false A t f = f refl
 
-pub returns-else-any_waits_where : goal.returns-else-any_waits_where
-returns-else-any_waits_where c =
+pub returns-else-any_waits_where-clause-quiet : goal.returns-else-any_waits_where-clause-quiet
+returns-else-any_waits_where-clause-quiet c e j x at =
     let v = terms_of c.args.self.now.terms.now in
     let b = read_of c.args.self.now.reader in
-    let busy = c.if-any_waits_where.ensures.quiet refl in
-    let rest = c.any_waits_where-else-any_waits_where.ensures in
-    record {
-      waits = rest.waits;
-      quiet = λ e j x at.
-          let l = seated v (well_formed c.args.self.now.terms.now) j x at in
-          either (is_idle (b.state x)) (QuietAt v b x) (rest.quiet e x l) (busy x l) j at;
-    }
+    let l = seated v (well_formed c.args.self.now.terms.now) j x at in
+    either (is_idle (b.state x)) (QuietAt v b x) (c.any_waits_where-else-any_waits_where.ensures.quiet e x l) (c.if-any_waits_where.ensures.quiet refl x l) j at
