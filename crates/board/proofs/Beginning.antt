@@ -1,5 +1,5 @@
 -- Making a board: start facts one after another.
-use Rattle.std.proofs.Common.{◌≡◌, ℕ, ◌+◌, ◌<◌, ◌≤◌, true, false, ◌⊎◌, List, length, get_or, sym, refl, ◌∙◌, subst, inl, inr, ⊎_elim, arith}
+use Rattle.std.proofs.Common.{◌≡◌, ℕ, ◌+◌, ◌<◌, true, ◌⊎◌, length, get_or, sym, refl, ◌∙◌, subst, inl, inr, ⊎_elim, arith}
 use Rattle.std.proofs.lemmas.Bool.{cases_eq, false≢true}
 use Rattle.rejections.specs.declared.Rejection.{Rejection}
 use Rattle.grades.specs.Kinds.{Kind, Lawful}
@@ -17,43 +17,10 @@ use Rattle.board.specs.Stages.{OpenBoard}
 use Rattle.board.specs.Views.{board_of, moment_of}
 use Rattle.board.specs.Frames.{Framed}
 use Rattle.board.specs.Moves.{Wrote, Nudged}
-use Rattle.board.specs.Making.{Blank, Begun}
+use Rattle.board.specs.Making.{Begun}
 use Rattle.board.specs.Refusals.{MakeRejected, InOrder}
 
 module _ {X Y : Type 0} (v : Vocabulary) (k : Kind) (numbers : Y → Numbers) where
-  pub begun_none : (words : List ℕ) (b : OpenBoard X) (p : Y) → Blank v k words b → length v.concepts ≤ (numbers p).size → ((x : ℕ) → (numbers p).holds x ≡ false) → Begun v k numbers 0 b p
-  begun_none words b p B r e = record {
-    concepts = B.concepts;
-    roles = B.roles;
-    wide = (let c = B.concepts in omega arith);
-    steps = B.steps;
-    started = λ a l. absurd (omega arith);
-    unfound = λ f w _. B.found f w;
-    undone = B.done;
-    queued = λ a l. absurd (omega arith);
-    idle = λ c l _. B.state c l;
-    put = λ a l. absurd (omega arith);
-    nothing_else = λ c _. e c;
-  }
-
-  pub begun_skip : (i : ℕ) (b : OpenBoard X) (p : Y) → Begun v k numbers i b p → (Named v i → ⊥) → Begun v k numbers (i + 1) b p
-  begun_skip i b p B no-atom = record {
-    concepts = B.concepts;
-    roles = B.roles;
-    wide = B.wide;
-    steps = B.steps;
-    started = λ a l at. B.started a (lower a l at) at;
-    unfound = λ f w n. B.unfound f w (λ a l. n a (omega arith));
-    undone = B.undone;
-    queued = λ a l at. B.queued a (lower a l at) at;
-    idle = λ c l n. B.idle c l (λ h. n (omega arith));
-    put = λ a l at. B.put a (lower a l at) at;
-    nothing_else = λ c n. B.nothing_else c (λ h. n (omega arith));
-  }
-    where
-      lower : (a : ℕ) → a < i + 1 → Named v a → a < i
-      lower a l at = ⊎_elim (λ e. absurd (no-atom (subst (λ u. Named v u) e at))) (λ ne. omega arith) (cases_eq a i)
-
   module _ (i : ℕ) (b c d : OpenBoard X) (p q : Y) (B : Begun v k numbers i b p) (I : Named v i) (sizes : Framed b c) (more : Framed c d)
       (W : Wrote (length v.concepts) v.roles (under i i) k.all (board_of b) (board_of c))
       (N : Nudged (length v.concepts) v.roles i (moment_of numbers c p) (moment_of numbers d q)) where

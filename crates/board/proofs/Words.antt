@@ -1,14 +1,12 @@
 -- What a write of one word changes of what the words say.
-use Rattle.std.proofs.Common.{◌≡◌, ℕ, ◌+◌, ◌*◌, ◌<◌, ◌≤◌, List, length, get_or, set, sym, refl, ap, ◌∙◌, arith, length-set, get_or-set_other, get_or-set_same}
+use Rattle.std.proofs.Common.{◌≡◌, ℕ, ◌+◌, ◌*◌, ◌<◌, ◌≤◌, List, length, get_or, set, sym, refl, ap, ◌∙◌, arith, get_or-set_other, get_or-set_same}
 use Rattle.reasoning.specs.Derivations.{fact_of, Fits}
 use Rattle.reasoning.specs.declared.Fact.{Fact}
 use Rattle.reasoning.specs.declared.Job.{Job}
 use Rattle.saturation.specs.Effects.{SameGrades}
 use Rattle.reasoning.specs.declared.Fact.TheVariants.{Under as under, Implies as implies}
 use Rattle.reasoning.specs.declared.Job.TheVariants.{Own as own, Link as link, Imply as imply}
-use Rattle.board.specs.Stages.{OpenBoard}
-use Rattle.board.specs.Layout.{room, StateWords}
-use Rattle.board.specs.Frames.{Framed}
+use Rattle.board.specs.Layout.{room}
 use Rattle.board.specs.Moves.{Wrote, Marked}
 use Rattle.board.specs.Views.{row, column, plane, layer, spot, mark, view_of, state_of}
 use Rattle.board.proofs.Places.{place_plane, place_inside}
@@ -109,18 +107,3 @@ spot_inside n m f h = let r = row_fits n m f h in (omega arith, place_inside n m
 
 pub mark_inside : (n m : ℕ) (j : Job) → Fits n m (fact_of j) → (n ≤ mark n m j) × (mark n m j < room n m)
 mark_inside n m j h = let r = row_fits n m (fact_of j) h in (omega arith, place_inside n m (layer m j) (row (fact_of j)) (column (fact_of j)) (layer_inside n m j h) r.0 r.1)
-
--- a write after the states leaves them states
-pub states_word : (w : List ℕ) (n i g : ℕ) → n ≤ i → StateWords n w → StateWords n (set w i g)
-states_word w n i g up S c l = let e = get_or-set_other w i c g 0 (omega arith) in let s = S c l in omega arith
-
--- a write of one of the board's words leaves the further ones
-pub framed_word : {X : Type 0} {a b : OpenBoard X} (i g : ℕ) → i < room a.counts.concepts a.counts.roles →
-    b.counts.concepts ≡ a.counts.concepts → b.counts.roles ≡ a.counts.roles → b.words.ghost_name ≡ a.words.ghost_name → b.words.now ≡ set a.words.now i g → Framed a b
-framed_word {a = a} i g l n m e w = record {
-  concepts = n;
-  roles = m;
-  lent = e;
-  extent = ap length w ∙ length-set a.words.now i g;
-  further = λ j h. ap (λ u. get_or u j 0) w ∙ get_or-set_other a.words.now i j g 0 (omega arith);
-}

@@ -1,15 +1,10 @@
-use Rattle.std.proofs.Common.{sym, ◌∙◌, subst}
+use Rattle.std.proofs.Common.{sym, subst}
 use Rattle.terms.specs.Views.{terms_of}
 use Rattle.saturation.specs.Boards.{Quiet}
 use Rattle.board.proofs.board.Board.any_waits.Goals as goal
 
-pub any_waits-requires : goal.any_waits-requires
-any_waits-requires g c = record { concepts = c.reader.ensures.concepts ∙ c.requires.concepts; roles = c.reader.ensures.roles ∙ c.requires.roles }
+pub returns-clause-waits : goal.returns-clause-waits
+returns-clause-waits g c = λ e Q. c.any_waits.ensures.waits e (subst (λ b. Quiet (terms_of c.args.terms.now) b) (sym c.reader.ensures.view) Q)
 
-pub returns : goal.returns
-returns g c =
-    let v = terms_of c.args.terms.now in
-    record {
-      waits = λ e Q. c.any_waits.ensures.waits e (subst (λ b. Quiet v b) (sym c.reader.ensures.view) Q);
-      quiet = λ e. subst (λ b. Quiet v b) c.reader.ensures.view (c.any_waits.ensures.quiet e);
-    }
+pub returns-clause-quiet : goal.returns-clause-quiet
+returns-clause-quiet g c = λ e. subst (λ b. Quiet (terms_of c.args.terms.now) b) c.reader.ensures.view (c.any_waits.ensures.quiet e)

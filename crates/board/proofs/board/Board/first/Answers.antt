@@ -1,10 +1,7 @@
-use Rattle.std.proofs.Common.{◌∙◌, subst, MatchOption}
+use Rattle.std.proofs.Common.{subst, MatchOption}
 use Rattle.terms.specs.Views.{terms_of}
 use Rattle.saturation.specs.Boards.{First, QuietAt}
 use Rattle.board.proofs.board.Board.first.Goals as goal
-
-pub first-requires : goal.first-requires
-first-requires g c = record { fitted = record { concepts = c.reader.ensures.concepts ∙ c.requires.concepts; roles = c.reader.ensures.roles ∙ c.requires.roles }; left = c.requires.left }
 
 pub returns : goal.returns
 returns g c =

@@ -1,19 +1,10 @@
-use Rattle.std.proofs.Common.{◌≡◌, ◌≤◌, sym, refl, ap, ◌∙◌, subst₂, arith, length}
+use Rattle.std.proofs.Common.{◌≡◌, sym, refl, ap, ◌∙◌, subst₂, arith, length}
 use Rattle.terms.specs.Views.{terms_of}
 use Rattle.reasoning.specs.Derivations.{Fits, fact_of}
-use Rattle.board.specs.Layout.{room, StateWords}
+use Rattle.board.specs.Layout.{room}
 use Rattle.board.specs.Views.{spot, mark, state_of}
 use Rattle.board.proofs.Words.{spot_inside, mark_inside}
 use Rattle.board.proofs.board.making.OpenBoard+K.blank.Goals as goal
-
-pub invariant_of-result : goal.invariant_of-result
-invariant_of-result g c =
-    let n = c.of-counts.result.concepts in
-    let m = c.of-counts.result.roles in
-    let r : room n m ≤ length c.args.words.now =
-    subst₂ (λ x y. room x y ≤ length c.args.words.now) (sym c.of-counts.ensures.concepts) (sym c.of-counts.ensures.roles) c.requires in
-    let S : StateWords n c.fill-2.new.words = λ x l. omega (arith, c.fill-2.ensures.before x l, c.fill.ensures.inside x (omega arith) l) in
-    record { fits = omega arith; states = S }
 
 pub returns : goal.returns
 returns g c =

@@ -1,38 +1,17 @@
-use Rattle.std.proofs.Common.{◌≡◌, ◌≤◌, length, sym, refl, ap, ◌∙◌, subst₂, arith}
+use Rattle.std.proofs.Common.{◌≡◌, ◌≤◌, length, sym, ap, ◌∙◌, subst₂, arith}
 use Rattle.terms.specs.Views.{terms_of}
 use Rattle.saturation.specs.Boards.{Sane}
 use Rattle.saturation.specs.Effects.{Made}
 use Rattle.board.specs.Layout.{room}
 use Rattle.board.specs.Views.{board_of, moment_of}
-use Rattle.board.proofs.Frames.{kept_same, kept_then}
-use Rattle.board.proofs.Beginning.{begun_none, begun_all, made_sane, not_in_order}
+use Rattle.board.proofs.Beginning.{begun_all, made_sane, not_in_order}
 use Rattle.board.proofs.board.making.OpenBoard+K.make.Goals as goal
 
-pub blank-board-requires : goal.blank-board-requires
-blank-board-requires g c = c.in_default.ensures.enough
+pub returns-in-Err-clause-made : goal.returns-in-Err-clause-made
+returns-in-Err-clause-made g c = λ O. absurd (not_in_order (terms_of c.args.terms.now) g.K.GradeKind.kind (length c.args.words.now) (g.P.Pile.numbers c.args.pile.now) O c.in-Err.ensures)
 
-pub start-requires : goal.start-requires
-start-requires g c = record { begun = c.loop-a.invariant.0; left = omega (arith, ap length c.concepts-a-end.ensures) }
-
-pub loop-a-init : goal.loop-a-init
-loop-a-init g c =
-    let O = c.in_default.ensures in
-    (begun_none (terms_of c.args.terms.now) g.K.GradeKind.kind g.P.Pile.numbers c.args.words.now c.blank-board.result c.args.pile.now c.blank-board.ensures.blank O.wide O.empty, kept_same)
-
-pub loop-a-preserved : goal.loop-a-preserved
-loop-a-preserved g c = (c.start.ensures.begun, kept_then c.loop-a.invariant.1 c.start.ensures.kept)
-
-pub returns-in-Err : goal.returns-in-Err
-returns-in-Err g c =
-    record {
-      lent = refl;
-      size = refl;
-      made = λ O. absurd (not_in_order (terms_of c.args.terms.now) g.K.GradeKind.kind (length c.args.words.now) (g.P.Pile.numbers c.args.pile.now) O c.in-Err.ensures);
-      empty = λ e R. record { concepts = refl; roles = refl; steps = refl; same_words = refl; same_pile = refl };
-    }
-
-pub returns : goal.returns
-returns g c =
+pub returns-clause-made : goal.returns-clause-made
+returns-clause-made g c =
     let v = terms_of c.args.terms.now in
     let k = g.K.GradeKind.kind in
     let numbers = g.P.Pile.numbers in
@@ -44,16 +23,14 @@ returns g c =
     let Z = c.blank-board.ensures.blank in
     let e : c.loop-a.a ≡ length v.concepts = omega (arith, ap length c.concepts-a-end.ensures) in
     let M : Made v k (moment_of numbers b q) = begun_all v k numbers c.loop-a.a b q e B in
-    record {
-      lent = K.frame.lent ∙ c.blank-board.ensures.lent;
-      size = K.size;
-      made = λ _. record {
-        concepts = B.concepts;
-        roles = B.roles;
-        made = M;
-        sane = subst₂ (λ n m. Sane n m k (board_of b)) (sym B.concepts) (sym B.roles) (made_sane v k g.met.K.GradeKind.lawful (moment_of numbers b q) M);
-        extent = K.frame.extent ∙ Z.extent;
-        further = λ i h. let h' : room first.counts.concepts first.counts.roles ≤ i = subst₂ (λ n m. room n m ≤ i) K.frame.concepts K.frame.roles h in K.frame.further i h' ∙ Z.further i h';
-      };
-      empty = λ e R. absurd (not_in_order v k (length c.args.words.now) (numbers c.args.pile.now) c.in_default.ensures R);
+    λ _. record {
+      concepts = B.concepts;
+      roles = B.roles;
+      made = M;
+      sane = subst₂ (λ n m. Sane n m k (board_of b)) (sym B.concepts) (sym B.roles) (made_sane v k g.met.K.GradeKind.lawful (moment_of numbers b q) M);
+      extent = K.frame.extent ∙ Z.extent;
+      further = λ i h. let h' : room first.counts.concepts first.counts.roles ≤ i = subst₂ (λ n m. room n m ≤ i) K.frame.concepts K.frame.roles h in K.frame.further i h' ∙ Z.further i h';
     }
+
+pub returns-clause-empty : goal.returns-clause-empty
+returns-clause-empty g c = λ e R. absurd (not_in_order (terms_of c.args.terms.now) g.K.GradeKind.kind (length c.args.words.now) (g.P.Pile.numbers c.args.pile.now) c.in_default.ensures R)

@@ -1,16 +1,14 @@
 use Rattle.std.proofs.Common.{length, sym, ◌∙◌, subst, subst₂}
-use Rattle.std.proofs.lemmas.Bool.{false≢true}
 use Rattle.terms.specs.Views.{terms_of}
-use Rattle.terms.proofs.Namings.{named_is, is_named_lem}
+use Rattle.terms.proofs.Namings.{named_is}
 use Rattle.reasoning.specs.declared.Fact.TheVariants.{Under as under}
 use Rattle.board.specs.Views.{board_of, moment_of}
 use Rattle.board.specs.Moves.{Wrote, Nudged}
-use Rattle.board.proofs.Frames.{kept_same, kept_framed}
-use Rattle.board.proofs.Beginning.{begun_skip, begun_more}
+use Rattle.board.proofs.Beginning.{begun_more}
 use Rattle.board.proofs.board.making.OpenBoard+K.start.Goals as goal
 
-pub returns-then-is_named : goal.returns-then-is_named
-returns-then-is_named g c =
+pub returns-then-is_named-clause-begun : goal.returns-then-is_named-clause-begun
+returns-then-is_named-clause-begun g c =
     let v = terms_of c.args.terms.now in
     let k = g.K.GradeKind.kind in
     let numbers = g.P.Pile.numbers in
@@ -28,14 +26,4 @@ returns-then-is_named g c =
     (subst₂ (λ n m. Wrote n m (under x x) c.all.result (board_of a) (board_of b)) en em c.write_found.ensures.wrote) in
     let N : Nudged (length v.concepts) v.roles x (moment_of numbers b p) (moment_of numbers d q) =
     subst₂ (λ n m. Nudged n m x (moment_of numbers b p) (moment_of numbers d q)) (F.concepts ∙ en) (F.roles ∙ em) c.queue.ensures.nudged in
-    record {
-      begun = begun_more v k numbers x a b d p q c.requires.begun (named_is v x (sym c.if-is_named.ensures)) F c.queue.ensures.kept.frame W N c.queue.ensures.kept.size;
-      kept = kept_framed F c.queue.ensures.kept;
-    }
-
-pub returns-else-is_named : goal.returns-else-is_named
-returns-else-is_named g c =
-    record {
-      begun = begun_skip (terms_of c.args.terms.now) g.K.GradeKind.kind g.P.Pile.numbers c.args.a c.args.self.now c.args.pile.now c.requires.begun (λ i. false≢true (c.if-is_named.ensures ∙ is_named_lem (terms_of c.args.terms.now) c.args.a i));
-      kept = kept_same;
-    }
+    begun_more v k numbers x a b d p q c.requires.begun (named_is v x (sym c.if-is_named.ensures)) F c.queue.ensures.kept.frame W N c.queue.ensures.kept.size
