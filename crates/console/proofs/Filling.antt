@@ -1,5 +1,5 @@
 -- A buffer that is filled from the front, and what is printed of a text.
-use Rattle.std.proofs.Common.{◌≡◌, ℕ, ◌+◌, ◌<◌, ◌≤◌, List, ◌++◌, length, take, Result, Option, sym, ap, ◌∙◌, arith, length-take-le}
+use Rattle.std.proofs.Common.{◌≡◌, ℕ, ◌+◌, ◌<◌, ◌≤◌, List, ◌++◌, length, take, Result, Option, sym, ap, ◌∙◌, length-take-le}
 use Rattle.std.specs.Result.{OnOk}
 use Rattle.std.specs.Io.KnownBytes.{Consumes, IsAtEnd, Appends}
 use Rattle.std.proofs.Math.Seq.{take-append-add}
@@ -15,19 +15,8 @@ take_filled f got n buffer part h g =
     ap (λ (k : ℕ). take (k + got) (take f buffer ++ (part ++ rest))) (sym (length-take-le f buffer h)) ∙ take-append-add (take f buffer) (part ++ rest) got
     ∙ ap (λ (xs : List ℕ). take f buffer ++ xs) (take-append-le got part rest g)
 
--- the first bytes of a buffer of 4,001 are read, and what is printed of them is written, if the writing goes well
-pub printing : {T E : Type 0} (r : Result T E) (input rest output after : Option (List ℕ)) (n : ℕ) (buffer bytes : List ℕ) → n ≤ length buffer → length buffer ≡ 4001 → Consumes input rest (take n buffer) →
-    (n < length buffer → IsAtEnd rest) → Printed (take n buffer) bytes → OnOk r (Appends output after bytes) → OnOk r (Printing input rest output after)
-printing r input rest output after n buffer bytes l e read whole printed wrote =
-    let long = length-take-le n buffer l in
-    on_ok_weaker r
-    (λ w. record {
-      text = take n buffer;
-      bytes = bytes;
-      few = omega (arith, long);
-      read = read;
-      whole = λ h. whole (omega (arith, long));
-      printed = printed;
-      written = w;
-    })
-    wrote
+-- a text of at most 4,001 bytes is read, and what is printed of it is written, if the writing goes well
+pub printing : {T E : Type 0} (r : Result T E) (input rest output after : Option (List ℕ)) (text bytes : List ℕ) → length text ≤ 4001 → Consumes input rest text →
+    (length text < 4001 → IsAtEnd rest) → Printed text bytes → OnOk r (Appends output after bytes) → OnOk r (Printing input rest output after)
+printing r input rest output after text bytes few read whole printed wrote =
+    on_ok_weaker r (λ w. record { text = text; bytes = bytes; few = few; read = read; whole = whole; printed = printed; written = w }) wrote

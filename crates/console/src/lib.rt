@@ -1,7 +1,7 @@
 //! From an input to an output: a text is read to its end, and its listing, or the line that says why there is none, is written.
 #![tactic(auto)]
 
-ghost use Rattle.std.specs.Prelude.{◌≤◌, ◌<◌, length, take, IfOk, OnOk};
+ghost use Rattle.std.specs.Prelude.{◌≤◌, ◌<◌, length, IfOk, OnOk};
 ghost use Rattle.std.specs.Io.KnownBytes.{Consumes, IsAtEnd};
 ghost use Rattle.console.specs.Printing.{Printing};
 
@@ -12,11 +12,11 @@ use std::io::{Read, Write};
 /// One byte more than the longest text that is read, so that a longer one is seen to be too long.
 const BUFFER: usize = 4001;
 
-/// Reads until the input ends or the buffer is full, and says how many bytes came.
-fn fill<R: Read>(input: &mut R, buffer: &mut [u8]) -> io::Result<usize>
-    ensures bound { IfOk result (λ n. n ≤ length buffer.new) }
-    ensures bytes { IfOk result (λ n. Consumes (R.remaining input.old) (R.remaining input.new) (take n buffer.new)) }
-    ensures end { IfOk result (λ n. n < length buffer.new → IsAtEnd (R.remaining input.new)) }
+/// Reads into the buffer until the input ends or the buffer is full, and answers the part that is filled.
+fn fill<'b, R: Read>(input: &mut R, buffer: &'b mut [u8]) -> io::Result<&'b [u8]>
+    ensures bound { IfOk result (λ text. length text.now ≤ length buffer.old) }
+    ensures bytes { IfOk result (λ text. Consumes (R.remaining input.old) (R.remaining input.new) text.now) }
+    ensures end { IfOk result (λ text. length text.now < length buffer.old → IsAtEnd (R.remaining input.new)) }
 {
     let mut filled = 0;
     while filled < buffer.len() {
@@ -26,7 +26,7 @@ fn fill<R: Read>(input: &mut R, buffer: &mut [u8]) -> io::Result<usize>
         }
         filled += got;
     }
-    Ok(filled)
+    Ok(&buffer[..filled])
 }
 
 /// Reads a term sheet and writes the listing of its classification, or the line that says why there is none. Of a text above 4,001 bytes
@@ -35,9 +35,9 @@ pub fn print_listing<R: Read, W: Write>(input: &mut R, output: &mut W) -> io::Re
     ensures { OnOk result (Printing (R.remaining input.old) (R.remaining input.new) (W.contents output.old) (W.contents output.new)) }
 {
     let mut buffer = [0; BUFFER];
-    let length = fill(input, &mut buffer)?;
+    let text = fill(input, &mut buffer)?;
     let mut page = [0; PAGE];
-    match list(&buffer[..length], &mut page) {
+    match list(text, &mut page) {
         Ok(size) => output.write_all(&page[..size]),
         Err(trouble) => output.write_all(&trouble.line()),
     }
