@@ -6,18 +6,15 @@ use Rattle.piles.specs.Sets.{Numbers}
 use Rattle.terms.specs.Vocabularies.{Vocabulary, WellFormed}
 use Rattle.reasoning.specs.declared.Fact.{Fact}
 use Rattle.board.specs.Views.{moment_of}
-use Rattle.board.specs.Raises.{Ready, Drawn}
+use Rattle.board.specs.Raises.{Drawn}
 use Rattle.board.specs.OwnDraws.{AnyBelow}
 use Rattle.board.specs.Stages.{OpenBoard}
-use Rattle.board.proofs.Frames.{kept_same, kept_then, ready_kept}
+use Rattle.board.proofs.Frames.{kept_same, kept_then}
 use Rattle.board.proofs.Raising.{raises_nothing, raises_alike, raises_then, seated}
 
 module _ {X Y : Type 0} {v : Vocabulary} {k : Kind} {numbers : Y → Numbers} where
-  pub drawn_ready : {P : Fact → ℕ → Type 0} {a b : OpenBoard X} {p q : Y} → Drawn v k numbers P a p b q → Ready v numbers a p → Ready v numbers b q
-  drawn_ready D R = ready_kept D.kept R
-
   module _ (L : Lawful k) (W : WellFormed v) where
-    pub drawn_nothing : {a : OpenBoard X} {p : Y} → Drawn v k numbers (λ _ _. ⊥) a p a p
+    drawn_nothing : {a : OpenBoard X} {p : Y} → Drawn v k numbers (λ _ _. ⊥) a p a p
     drawn_nothing {a} {p} = record { kept = kept_same; raises = raises_nothing v k L (seated v W) (moment_of numbers a p) }
 
     pub drawn_alike : {P Q : Fact → ℕ → Type 0} {a b : OpenBoard X} {p q : Y} → Drawn v k numbers P a p b q →
@@ -52,6 +49,3 @@ module _ {X Y : Type 0} {v : Vocabulary} {k : Kind} {numbers : Y → Numbers} wh
     -- a raise under a test that was passed
     pub drawn_guarded : {G : Type 0} {P : Fact → ℕ → Type 0} {a b : OpenBoard X} {p q : Y} → G → Drawn v k numbers P a p b q → Drawn v k numbers (λ f x. G × P f x) a p b q
     drawn_guarded t D = drawn_alike D (λ f x h. (t, h)) (λ f x h. h.1)
-
-  pub turns_all : {P : ℕ → Fact → ℕ → Type 0} {i n : ℕ} {a b : OpenBoard X} {p q : Y} → i ≡ n → Drawn v k numbers (AnyBelow i P) a p b q → Drawn v k numbers (AnyBelow n P) a p b q
-  turns_all {P} {i} {n} {a} {b} {p} {q} e D = subst (λ u. Drawn v k numbers (AnyBelow u P) a p b q) e D
