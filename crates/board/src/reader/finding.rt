@@ -125,6 +125,7 @@ impl<'b> Reading<'b> {
     fn first_link(&self, c: u16) -> Option<Link>
         ensures { BestLink (terms_of self.now.terms.now) (read_of self.now.reader) c (length (terms_of self.now.terms.now).concepts) result }
     {
+        // A `fold` is no plainer: it hands on the same best, and owes at each call what the invariant says once.
         let mut best = None;
         for x in 0..self.reader.counts.concepts as u16 {
             best = self.better_link(c, x, best);

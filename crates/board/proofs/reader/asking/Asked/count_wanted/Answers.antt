@@ -1,4 +1,4 @@
-use Rattle.std.proofs.Common.{ℕ, length, refl, ap, ◌∙◌, arith, rules, tests}
+use Rattle.std.proofs.Common.{length, ap, ◌∙◌, arith, rules, tests}
 use Rattle.std.proofs.lemmas.Iterator.{YieldsList-from_range}
 use Rattle.std.proofs.lemmas.Iterator.Consumers.{YieldsList-from_filter, count_from_yields_List}
 use Rattle.board.specs.Asking.{wanted}
