@@ -65,6 +65,13 @@ impl Hand {
     }
 }
 
+impl<'b, 'w, 'p, 't, K, P> Desk<'b, 'w, 'p, 't, K, P> {
+    /// The board with its pile and the terms. Callers make desks by this call, since they are not proved where they make them by a literal.
+    pub fn new(board: &'b mut OpenBoard<'w, K>, pile: &'p mut P, terms: &'t Terms<'t>) -> Self {
+        Desk { board, pile, terms }
+    }
+}
+
 impl<'b, 'w, 'p, 't, K: GradeKind, P: Pile> Desk<'b, 'w, 'p, 't, K, P> {
     /// Takes a concept into an empty hand.
     pub fn take(&mut self, hand: Hand) -> Shown {

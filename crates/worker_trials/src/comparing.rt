@@ -1,29 +1,39 @@
 //! What the other classifier says of a sheet, and whether a closed board says the same.
 use crate::history::Course;
+use crate::slots::Slots;
 use crate::trial::CONCEPTS;
-use crate::trouble::Trouble;
 use board::closed::ClosedBoard;
 use grades::kind::GradeKind;
 use reference::{Kind, Table, Vocabulary, code, mates, parents, saturate};
+use staging::trouble::Trouble;
 use std::alloc::Global;
 use terms::terms::Terms;
 
-/// What the other classifier says of a sheet.
+/// What the other classifier says of a sheet, and the library's terms of it.
 #[derive(Drop)]
-pub struct Truth {
+pub struct Truth<'t> {
+    heap: Global,
+    pub terms: &'t Terms<'t>,
     vocabulary: Vocabulary,
     table: Table,
     kind: Kind,
 }
 
-impl Truth {
-    /// What it says of the text.
-    pub fn of(heap: Global, text: &[u8], kind: Kind) -> Result<Truth, Trouble> {
+impl<'t> Truth<'t> {
+    /// What it says of the text, of which these are the terms.
+    pub fn of(
+        heap: Global,
+        text: &[u8],
+        terms: &'t Terms<'t>,
+        kind: Kind,
+    ) -> Result<Truth<'t>, Trouble<Slots>> {
         let Ok(vocabulary) = reference::read(heap, text, 1024, 4096)? else {
             return Err(Trouble::Differs("a random sheet has a fault"));
         };
         let table = saturate(heap, &vocabulary, kind)?;
         Ok(Truth {
+            heap,
+            terms,
             vocabulary,
             table,
             kind,
@@ -47,22 +57,20 @@ impl Truth {
     /// The mates and the parents of a concept at a point are those that the board answers.
     fn check_lists<K: GradeKind>(
         &self,
-        heap: Global,
         board: &ClosedBoard<K>,
-        terms: &Terms,
         a: u16,
         point: u8,
-    ) -> Result<(), Trouble> {
+    ) -> Result<(), Trouble<Slots>> {
         let place = usize::from(a);
         let at = usize::from(point);
         let mut list = [u16::MAX; CONCEPTS];
-        let mated = board.mates(terms, a, point, &mut list);
-        let expected = mates(heap, &self.table, &self.vocabulary, place, at)?;
+        let mated = board.mates(self.terms, a, point, &mut list);
+        let expected = mates(self.heap, &self.table, &self.vocabulary, place, at)?;
         if mated != Ok(expected.len()) || !list.starts_with(&expected) {
             return Err(Trouble::Differs("other mates"));
         }
-        let above = board.parents(terms, a, point, &mut list);
-        let expected = parents(heap, &self.table, &self.vocabulary, place, at)?;
+        let above = board.parents(self.terms, a, point, &mut list);
+        let expected = parents(self.heap, &self.table, &self.vocabulary, place, at)?;
         if above != Ok(expected.len()) || !list.starts_with(&expected) {
             return Err(Trouble::Differs("other parents"));
         }
@@ -72,37 +80,33 @@ impl Truth {
     /// The grades of a named concept are those that the board answers, and so are its mates and parents at a random point.
     fn check_row<K: GradeKind>(
         &self,
-        heap: Global,
         board: &ClosedBoard<K>,
-        terms: &Terms,
         a: u16,
         point: u8,
-    ) -> Result<(), Trouble> {
+    ) -> Result<(), Trouble<Slots>> {
         for d in 0..CONCEPTS as u16 {
-            if usize::from(d) < terms.concepts().len()
-                && board.under(terms, a, d).ok() != self.under(a, d)
+            if usize::from(d) < self.terms.concepts().len()
+                && board.under(self.terms, a, d).ok() != self.under(a, d)
             {
                 return Err(Trouble::Differs("another grade"));
             }
         }
-        self.check_lists(heap, board, terms, a, point)
+        self.check_lists(board, a, point)
     }
 
     /// The board says all that the other classifier says.
     pub fn check_board<K: GradeKind>(
         &self,
-        heap: Global,
         board: &ClosedBoard<K>,
-        terms: &Terms,
         course: &mut Course,
-    ) -> Result<(), Trouble> {
+    ) -> Result<(), Trouble<Slots>> {
         if !self.allows(board.steps()) {
             return Err(Trouble::Differs("another count of steps"));
         }
         for a in 0..CONCEPTS as u16 {
-            if terms.is_named(a) {
+            if self.terms.is_named(a) {
                 let point = course.random.below(usize::from(K::points())).min(63) as u8;
-                self.check_row(heap, board, terms, a, point)?;
+                self.check_row(board, a, point)?;
             }
         }
         Ok(())
