@@ -3,8 +3,6 @@
 #![tactic(auto)]
 
 #[cfg(test)]
-mod hands;
-#[cfg(test)]
 mod lines;
 #[cfg(test)]
 mod playing;

@@ -1,5 +1,5 @@
-//! One line of a script: a call, and how it ends.
-use rejections::Rejection;
+//! One line of a script: a call, and its answer.
+use staging::hands::Refusal;
 
 /// Whose hand acts.
 #[derive(Clone, Copy)]
@@ -8,7 +8,7 @@ pub enum Who {
     Foreign,
 }
 
-/// What a worker does.
+/// What a worker does. It is an enum and no closure, since each line is played on several boards and piles, whose types differ.
 #[derive(Clone, Copy)]
 pub enum Deed {
     Take,
@@ -36,12 +36,26 @@ pub enum Which {
     RoleMore,
 }
 
-/// A call, and its rejection.
+/// A call, and its answer. The fields have no names: the scripts are tables of such lines, which names would make no plainer.
 #[derive(Clone, Copy)]
 pub struct Line(
     pub Who,
     pub Deed,
     pub Place,
     pub Which,
-    pub Option<Rejection>,
+    pub Result<(), Refusal>,
 );
+
+impl Line {
+    /// Whether the line is for the wider board.
+    pub fn is_wide(&self) -> bool {
+        let Line(_, _, place, _, _) = self;
+        matches!(place, Place::Wide | Place::WideFrom(_))
+    }
+
+    /// Whether the call is accepted.
+    pub fn is_fine(&self) -> bool {
+        let Line(_, _, _, _, answer) = self;
+        answer.is_ok()
+    }
+}

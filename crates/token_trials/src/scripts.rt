@@ -5,20 +5,24 @@ use crate::lines::Place::*;
 use crate::lines::Which::*;
 use crate::lines::Who::*;
 use rejections::Rejection;
+use staging::hands::Refusal::{self, Rejected};
 
-const FINE: Option<Rejection> = None;
+/// How a call ends.
+type Answer = Result<(), Refusal>;
 
-const OTHER_TERMS: Option<Rejection> = Some(Rejection::OtherTerms);
+const FINE: Answer = Ok(());
 
-const SMALL_PILE: Option<Rejection> = Some(Rejection::SmallPile);
+const OTHER_TERMS: Answer = Err(Rejected(Rejection::OtherTerms));
 
-const EMPTY_PILE: Option<Rejection> = Some(Rejection::EmptyPile);
+const SMALL_PILE: Answer = Err(Rejected(Rejection::SmallPile));
 
-const NOT_QUEUED: Option<Rejection> = Some(Rejection::NotQueued);
+const EMPTY_PILE: Answer = Err(Rejected(Rejection::EmptyPile));
 
-const UNFIT: Option<Rejection> = Some(Rejection::UnfitLease);
+const NOT_QUEUED: Answer = Err(Rejected(Rejection::NotQueued));
 
-const NOTHING_WAITS: Option<Rejection> = Some(Rejection::NothingWaits);
+const UNFIT: Answer = Err(Rejected(Rejection::UnfitLease));
+
+const NOTHING_WAITS: Answer = Err(Rejected(Rejection::NothingWaits));
 
 /// The board has concepts 0 and 1, which are queued at first, and 2, a top, which is idle; 3 is the wider board's alone.
 pub static OWN_LEASE: [Line; 26] = [

@@ -1,10 +1,11 @@
 //! What the other classifier says of a sheet, and whether a closed board says the same.
 use crate::history::Course;
+use crate::slots::Slots;
 use crate::trial::CONCEPTS;
-use crate::trouble::Trouble;
 use board::closed::ClosedBoard;
 use grades::kind::GradeKind;
 use reference::{AtPoint, Kind, Room, Table, Vocabulary, saturate};
+use staging::trouble::Trouble;
 use std::alloc::Global;
 use terms::terms::Terms;
 
@@ -14,20 +15,29 @@ const ROOM: Room = Room {
     inclusions: 4096,
 };
 
-/// What the other classifier says of a sheet.
+/// What the other classifier says of a sheet, and the library's terms of it.
 #[derive(Drop)]
-pub struct Truth {
+pub struct Truth<'t> {
+    heap: Global,
+    pub terms: &'t Terms<'t>,
     vocabulary: Vocabulary,
     table: Table,
     kind: Kind,
 }
 
-impl Truth {
-    /// What it says of the text.
-    pub fn of(heap: Global, text: &[u8], kind: Kind) -> Result<Truth, Trouble> {
+impl<'t> Truth<'t> {
+    /// What it says of the text, of which these are the terms.
+    pub fn of(
+        heap: Global,
+        text: &[u8],
+        terms: &'t Terms<'t>,
+        kind: Kind,
+    ) -> Result<Truth<'t>, Trouble<Slots>> {
         let vocabulary = reference::read(heap, text, ROOM)?;
         let table = saturate(heap, &vocabulary, kind)?;
         Ok(Truth {
+            heap,
+            terms,
             vocabulary,
             table,
             kind,
@@ -52,12 +62,10 @@ impl Truth {
     /// The mates and the parents of a concept at a point are those that the board answers.
     fn check_lists<K: GradeKind>(
         &self,
-        heap: Global,
         board: &ClosedBoard<K>,
-        terms: &Terms,
         a: u16,
         point: u8,
-    ) -> Result<(), Trouble> {
+    ) -> Result<(), Trouble<Slots>> {
         let place = usize::from(a);
         let at = AtPoint {
             table: &self.table,
@@ -65,13 +73,13 @@ impl Truth {
             point: usize::from(point),
         };
         let mut list = [u16::MAX; CONCEPTS];
-        let mated = board.mates(terms, a, point, &mut list);
-        let expected = at.mates(heap, place)?;
+        let mated = board.mates(self.terms, a, point, &mut list);
+        let expected = at.mates(self.heap, place)?;
         if mated != Ok(expected.len()) || !list.starts_with(&expected) {
             return Err(Trouble::Differs("other mates"));
         }
-        let above = board.parents(terms, a, point, &mut list);
-        let expected = at.parents(heap, place)?;
+        let above = board.parents(self.terms, a, point, &mut list);
+        let expected = at.parents(self.heap, place)?;
         if above != Ok(expected.len()) || !list.starts_with(&expected) {
             return Err(Trouble::Differs("other parents"));
         }
@@ -81,37 +89,33 @@ impl Truth {
     /// The grades of a named concept are those that the board answers, and so are its mates and parents at a random point.
     fn check_row<K: GradeKind>(
         &self,
-        heap: Global,
         board: &ClosedBoard<K>,
-        terms: &Terms,
         a: u16,
         point: u8,
-    ) -> Result<(), Trouble> {
+    ) -> Result<(), Trouble<Slots>> {
         for d in 0..CONCEPTS as u16 {
-            if usize::from(d) < terms.concepts().len()
-                && board.under(terms, a, d).ok() != self.under(a, d)
+            if usize::from(d) < self.terms.concepts().len()
+                && board.under(self.terms, a, d).ok() != self.under(a, d)
             {
                 return Err(Trouble::Differs("another grade"));
             }
         }
-        self.check_lists(heap, board, terms, a, point)
+        self.check_lists(board, a, point)
     }
 
     /// The board says all that the other classifier says.
     pub fn check_board<K: GradeKind>(
         &self,
-        heap: Global,
         board: &ClosedBoard<K>,
-        terms: &Terms,
         course: &mut Course,
-    ) -> Result<(), Trouble> {
+    ) -> Result<(), Trouble<Slots>> {
         if !self.allows(board.steps()) {
             return Err(Trouble::Differs("another count of steps"));
         }
         for a in 0..CONCEPTS as u16 {
-            if terms.is_named(a) {
+            if self.terms.is_named(a) {
                 let point = course.random.below(usize::from(K::points())).min(63) as u8;
-                self.check_row(heap, board, terms, a, point)?;
+                self.check_row(board, a, point)?;
             }
         }
         Ok(())

@@ -1,24 +1,20 @@
 //! One history: workers take, step, lower and recheck at random on two boards, with small runs in between.
-use crate::slots::{Side, Slot, Slots, recheck};
-use board::board::OpenBoard;
-use board::tokens::{Lease, Refused};
+use crate::slots::{Side, Slot, Slots};
 use grades::kind::GradeKind;
 use piles::pile::Pile;
 use random_sheets::Random;
 use rejections::Rejection;
 use saturation::Outcome;
+use staging::hands::{Desk, Hand, Refusal, Shown};
 use std::fmt;
-use terms::terms::Terms;
 
 /// What happened in some histories.
-#[derive(Clone, Copy)]
+#[derive(Clone, Copy, Default)]
 pub struct Tally {
     /// Leases taken.
     pub taken: u64,
     /// Steps of workers.
     pub steps: u64,
-    /// Leases lowered.
-    pub lowered: u64,
     /// Leases that the board to which they were shown refused.
     pub refused: u64,
     /// Lowered leases that were rechecked on the other board.
@@ -27,16 +23,16 @@ pub struct Tally {
     pub healed: u64,
     /// Questions that were rejected, since a job waited.
     pub waiting: u64,
-    /// Answers that are not as they must be.
-    pub wrong: u64,
 }
 
-/// The course of a history: chance, whether lowered leases may go to the other board, and what happened so far.
+/// The course of a history: chance, whether lowered leases may go to the other board, what happened so far, and whether an answer was not as
+/// it must be. Such an answer is only noted and ends nothing, since the workers then have tokens in their hands.
 #[derive(Clone, Copy)]
 pub struct Course {
     pub random: Random,
     pub astray: bool,
     pub tally: Tally,
+    pub wrong: bool,
 }
 
 /// One more.
@@ -44,30 +40,16 @@ pub fn count(number: &mut u64) {
     *number = number.saturating_add(1);
 }
 
-impl Tally {
-    /// Nothing happened.
-    pub fn none() -> Tally {
-        Tally {
-            taken: 0,
-            steps: 0,
-            lowered: 0,
-            refused: 0,
-            astray: 0,
-            healed: 0,
-            waiting: 0,
-            wrong: 0,
-        }
-    }
-}
-
 impl fmt::Display for Tally {
     fn fmt<W: fmt::Write>(&self, f: &mut fmt::Formatter<W>) -> fmt::Result {
-        let taken = self.taken;
-        let steps = self.steps;
-        let refused = self.refused;
-        let astray = self.astray;
-        let healed = self.healed;
-        let waiting = self.waiting;
+        let Tally {
+            taken,
+            steps,
+            refused,
+            astray,
+            healed,
+            waiting,
+        } = self;
         write!(
             f,
             "{taken} takes, {steps} steps, {refused} leases refused, {astray} rechecks astray, {healed} boards healed, {waiting} questions too early"
@@ -76,168 +58,143 @@ impl fmt::Display for Tally {
 }
 
 impl Course {
-    /// Counts an answer that is not as it must be.
+    /// Notes an answer that is not as it must be.
     pub fn expect(&mut self, holds: bool) {
         if !holds {
-            count(&mut self.tally.wrong);
+            self.wrong = true;
         }
     }
 }
 
-/// Takes a concept, if one is queued.
-fn take_one<K: GradeKind, P: Pile>(
-    board: &mut OpenBoard<K>,
-    pile: &mut P,
-    course: &mut Course,
-) -> Slot {
-    match board.take(pile) {
-        Ok(lease) => {
-            count(&mut course.tally.taken);
-            Slot::Holding(lease)
-        }
-        Err(Rejection::EmptyPile) => Slot::Free,
-        Err(_) => {
-            course.expect(false);
-            Slot::Free
-        }
+/// Takes a concept into the empty hand, if one is queued.
+fn take_one<K: GradeKind, P: Pile>(desk: &mut Desk<K, P>, hand: Hand, course: &mut Course) -> Hand {
+    let Shown { hand, answer } = desk.take(hand);
+    match answer {
+        Ok(()) => count(&mut course.tally.taken),
+        Err(Refusal::Rejected(Rejection::EmptyPile)) => {}
+        Err(_) => course.expect(false),
     }
+    hand
 }
 
-/// Shows the lease to the board for a step.
-fn step_one<K: GradeKind, P: Pile>(
-    terms: &Terms,
-    board: &mut OpenBoard<K>,
-    pile: &mut P,
-    lease: &Lease,
-    course: &mut Course,
-) {
-    match board.step(terms, pile, lease) {
-        Ok(_) => count(&mut course.tally.steps),
-        Err(Rejection::UnfitLease) => count(&mut course.tally.refused),
-        Err(Rejection::NothingWaits) => {}
+/// Shows the lease in hand to the board for a step.
+fn step_one<K: GradeKind, P: Pile>(desk: &mut Desk<K, P>, hand: &Hand, course: &mut Course) {
+    match desk.step(hand) {
+        Ok(()) => count(&mut course.tally.steps),
+        Err(Refusal::Rejected(Rejection::UnfitLease)) => count(&mut course.tally.refused),
+        Err(Refusal::Rejected(Rejection::NothingWaits)) => {}
         Err(_) => course.expect(false),
     }
 }
 
-/// Shows the lease to the board for a lowering.
-fn lower_one<K: GradeKind>(
-    board: &mut OpenBoard<K>,
-    lease: Lease,
-    side: Side,
+/// Shows the lease in hand to the board for a lowering.
+fn lower_one<K: GradeKind, P: Pile>(
+    desk: &mut Desk<K, P>,
+    hand: Hand,
     course: &mut Course,
-) -> Slot {
-    match board.lower(lease) {
-        Ok(lowered) => {
-            count(&mut course.tally.lowered);
-            Slot::Owing(lowered, side)
-        }
-        Err(Refused { rejection, token }) => {
-            count(&mut course.tally.refused);
-            course.expect(rejection.number() == 15);
-            Slot::Holding(token)
-        }
+) -> Hand {
+    let Shown { hand, answer } = desk.lower(hand);
+    if let Err(refusal) = answer {
+        count(&mut course.tally.refused);
+        course.expect(refusal == Refusal::Rejected(Rejection::UnfitLease));
     }
+    hand
+}
+
+/// Shows the lowered lease in hand to the board, if it is owed to it or may go astray.
+fn recheck_one<K: GradeKind, P: Pile>(
+    desk: &mut Desk<K, P>,
+    hand: Hand,
+    owed_here: bool,
+    course: &mut Course,
+) -> Hand {
+    if !owed_here {
+        if !course.astray {
+            return hand;
+        }
+        count(&mut course.tally.astray);
+    }
+    let Shown { hand, answer: _ } = desk.recheck(hand);
+    hand
 }
 
 /// A worker without a token takes, one with a lease steps or lowers, one that owes a recheck rechecks.
 fn act<K: GradeKind, P: Pile>(
-    terms: &Terms,
-    board: &mut OpenBoard<K>,
-    pile: &mut P,
-    slot: Slot,
+    desk: &mut Desk<K, P>,
     side: Side,
+    slot: Slot,
     course: &mut Course,
 ) -> Slot {
-    match slot {
-        Slot::Free => take_one(board, pile, course),
-        Slot::Holding(lease) => {
+    let Slot { hand, side: owed } = slot;
+    match &hand {
+        Hand::Empty => Slot {
+            hand: take_one(desk, hand, course),
+            side,
+        },
+        Hand::Holding(_) => {
             if course.random.once_in(3) {
-                return lower_one(board, lease, side, course);
+                return Slot {
+                    hand: lower_one(desk, hand, course),
+                    side,
+                };
             }
-            step_one(terms, board, pile, &lease, course);
-            Slot::Holding(lease)
+            step_one(desk, &hand, course);
+            Slot { hand, side }
         }
-        Slot::Owing(lowered, owed) => {
-            if owed == side {
-                return recheck(terms, board, pile, lowered, side);
-            }
-            if course.astray {
-                count(&mut course.tally.astray);
-                return recheck(terms, board, pile, lowered, owed);
-            }
-            Slot::Owing(lowered, owed)
-        }
+        Hand::Owing(_) => Slot {
+            hand: recheck_one(desk, hand, owed == side, course),
+            side: owed,
+        },
     }
 }
 
 /// A run of a few steps, once in a while.
-fn run_some<K: GradeKind, P: Pile>(
-    terms: &Terms,
-    board: &mut OpenBoard<K>,
-    pile: &mut P,
-    course: &mut Course,
-) {
+fn run_some<K: GradeKind, P: Pile>(desk: &mut Desk<K, P>, course: &mut Course) {
     if !course.random.once_in(12) {
         return;
     }
     let budget = course.random.below(4) as u64;
-    let before = board.steps();
-    let (outcome, steps) = match board.run(terms, pile, budget) {
-        Ok(ran) => (ran.outcome, ran.steps),
-        Err(_) => (Outcome::Left, u64::MAX),
+    let before = desk.board.steps();
+    let Ok(ran) = desk.board.run(desk.terms, desk.pile, budget) else {
+        course.expect(false);
+        return;
     };
-    course.expect(steps <= budget && board.steps() == before.saturating_add(steps));
-    if let Outcome::Spent = outcome {
-        course.expect(steps == budget);
-    }
+    course.expect(ran.steps <= budget && desk.board.steps() == before.saturating_add(ran.steps));
+    course.expect(ran.outcome != Outcome::Spent || ran.steps == budget);
 }
 
 /// One worker acts on one of the boards, and another is next.
 fn turn<K: GradeKind, P: Pile, Q: Pile>(
-    terms: &Terms,
-    first: &mut OpenBoard<K>,
-    first_pile: &mut P,
-    second: &mut OpenBoard<K>,
-    second_pile: &mut Q,
+    first: &mut Desk<K, P>,
+    second: &mut Desk<K, Q>,
     slots: Slots,
     course: &mut Course,
 ) -> Slots {
-    let Slots { one, two, three } = slots;
+    let Slots([one, two, three]) = slots;
     let after = if course.random.once_in(2) {
-        run_some(terms, first, first_pile, course);
-        act(terms, first, first_pile, one, Side::First, course)
+        run_some(first, course);
+        act(first, Side::First, one, course)
     } else {
-        run_some(terms, second, second_pile, course);
-        act(terms, second, second_pile, one, Side::Second, course)
+        run_some(second, course);
+        act(second, Side::Second, one, course)
     };
     if course.random.once_in(2) {
-        Slots {
-            one: two,
-            two: three,
-            three: after,
-        }
+        Slots([two, three, after])
     } else {
-        Slots {
-            one: three,
-            two: after,
-            three: two,
-        }
+        Slots([three, after, two])
     }
 }
 
 /// The workers act for a while.
 pub fn work<K: GradeKind, P: Pile, Q: Pile>(
-    terms: &Terms,
-    first: &mut OpenBoard<K>,
-    first_pile: &mut P,
-    second: &mut OpenBoard<K>,
-    second_pile: &mut Q,
+    first: &mut Desk<K, P>,
+    second: &mut Desk<K, Q>,
     slots: Slots,
     course: &mut Course,
 ) -> Slots {
     let mut now = slots;
     for _ in 0..40u8 {
-        now = turn(terms, first, first_pile, second, second_pile, now, course);
+        now = turn(first, second, now, course);
     }
     now
 }

@@ -11,5 +11,3 @@ mod slots;
 mod tests;
 #[cfg(test)]
 mod trial;
-#[cfg(test)]
-mod trouble;

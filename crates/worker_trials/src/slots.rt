@@ -1,10 +1,8 @@
 //! What the workers have in their hands, and how it is spent at the end.
-use crate::trouble::Trouble;
-use board::board::OpenBoard;
-use board::tokens::{Lease, LoweredLease, Refused};
 use grades::kind::GradeKind;
 use piles::pile::Pile;
-use terms::terms::Terms;
+use staging::hands::{Desk, Hand, Shown};
+use staging::trouble::Trouble;
 
 /// One of the two boards.
 #[derive(Clone, Copy, PartialEq)]
@@ -13,111 +11,72 @@ pub enum Side {
     Second,
 }
 
-/// What one worker has in hand. A lowered lease is owed to the board on which it was lowered.
-pub enum Slot {
-    Free,
-    Holding(Lease),
-    Owing(LoweredLease, Side),
+/// What one worker has in hand, and the board to which a lowered lease is owed: that on which the worker last did something else.
+pub struct Slot {
+    pub hand: Hand,
+    pub side: Side,
 }
 
-/// The hands of three workers.
-pub struct Slots {
-    pub one: Slot,
-    pub two: Slot,
-    pub three: Slot,
-}
+/// The hands of three workers, of whom the first acts next.
+pub struct Slots(pub [Slot; 3]);
 
-/// Lowers the lease, if the board accepts that.
-pub fn lower<K: GradeKind>(board: &mut OpenBoard<K>, lease: Lease, side: Side) -> Slot {
-    match board.lower(lease) {
-        Ok(lowered) => Slot::Owing(lowered, side),
-        Err(
-            Refused {
-                rejection: _,
-                token,
-            },
-        ) => Slot::Holding(token),
-    }
-}
-
-/// Rechecks, if the board accepts that.
-pub fn recheck<K: GradeKind, P: Pile>(
-    terms: &Terms,
-    board: &mut OpenBoard<K>,
-    pile: &mut P,
-    lowered: LoweredLease,
-    side: Side,
-) -> Slot {
-    match board.recheck(terms, pile, lowered) {
-        Ok(()) => Slot::Free,
-        Err(
-            Refused {
-                rejection: _,
-                token,
-            },
-        ) => Slot::Owing(token, side),
-    }
-}
-
-/// Spends what is owed to the board and, if the board accepts it, a lease.
-pub fn spend_at<K: GradeKind, P: Pile>(
-    terms: &Terms,
-    board: &mut OpenBoard<K>,
-    pile: &mut P,
-    slot: Slot,
-    side: Side,
-) -> Slot {
-    let lowered = match slot {
-        Slot::Holding(lease) => lower(board, lease, side),
-        other => other,
-    };
-    match lowered {
-        Slot::Owing(token, owed) => {
-            if owed == side {
-                recheck(terms, board, pile, token, side)
-            } else {
-                Slot::Owing(token, owed)
-            }
+impl Slot {
+    /// A worker without anything.
+    pub fn free() -> Slot {
+        Slot {
+            hand: Hand::Empty,
+            side: Side::First,
         }
-        other => other,
+    }
+
+    /// Spends what is owed to the board and, if the board accepts it, a lease.
+    fn spend<K: GradeKind, P: Pile>(self, desk: &mut Desk<K, P>, side: Side) -> Slot {
+        let Slot { hand, side: owed } = self;
+        let Shown { hand, answer } = desk.lower(hand);
+        let owed = if answer.is_ok() { side } else { owed };
+        if owed != side {
+            return Slot { hand, side: owed };
+        }
+        let Shown { hand, answer: _ } = desk.recheck(hand);
+        Slot { hand, side }
     }
 }
 
 impl Slots {
     /// Nobody has anything.
     pub fn free() -> Slots {
-        Slots {
-            one: Slot::Free,
-            two: Slot::Free,
-            three: Slot::Free,
-        }
+        Slots([Slot::free(), Slot::free(), Slot::free()])
     }
 
     /// Spends at the board what it accepts and what is owed to it.
-    pub fn spend<K: GradeKind, P: Pile>(
-        self,
-        terms: &Terms,
-        board: &mut OpenBoard<K>,
-        pile: &mut P,
-        side: Side,
-    ) -> Slots {
-        let Slots { one, two, three } = self;
-        Slots {
-            one: spend_at(terms, board, pile, one, side),
-            two: spend_at(terms, board, pile, two, side),
-            three: spend_at(terms, board, pile, three, side),
-        }
+    pub fn spend<K: GradeKind, P: Pile>(self, desk: &mut Desk<K, P>, side: Side) -> Slots {
+        let Slots([one, two, three]) = self;
+        Slots([
+            one.spend(desk, side),
+            two.spend(desk, side),
+            three.spend(desk, side),
+        ])
     }
 
     /// Everything is spent, or the rest is handed on.
-    pub fn end(self) -> Result<(), Trouble> {
-        match self {
-            Slots {
-                one: Slot::Free,
-                two: Slot::Free,
-                three: Slot::Free,
-            } => Ok(()),
-            kept => Err(Trouble::Kept(kept)),
+    pub fn end(self) -> Result<(), Trouble<Slots>> {
+        let Slots([one, two, three]) = self;
+        match (one, two, three) {
+            (
+                Slot {
+                    hand: Hand::Empty,
+                    side: _,
+                },
+                Slot {
+                    hand: Hand::Empty,
+                    side: _,
+                },
+                Slot {
+                    hand: Hand::Empty,
+                    side: _,
+                },
+            ) => Ok(()),
+            (one, two, three) => Err(Trouble::Kept(Slots([one, two, three]))),
         }
     }
 }

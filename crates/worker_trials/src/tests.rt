@@ -1,14 +1,16 @@
 //! The histories of each kind of grade, and what they came to.
 use crate::history::{Course, Tally};
+use crate::slots::Slots;
 use crate::trial::{CONCEPTS, INCLUSIONS, compare};
-use crate::trouble::Trouble;
 use grades::kind::GradeKind;
 use grades::plain::Plain;
 use grades::releases::Releases;
 use grades::views::Views;
 use random_sheets::{Random, Size, random_sheet};
 use reference::Kind;
+use staging::trouble::Trouble;
 use std::alloc::Global;
+use std::process::Abort;
 use std::test::*;
 
 /// How many histories there are for each kind of grade.
@@ -20,11 +22,12 @@ fn compare_all<K: GradeKind>(
     kind: K,
     known: Kind,
     most_code: u16,
-) -> Result<Tally, Trouble> {
+) -> Result<Tally, Trouble<Slots>> {
     let mut course = Course {
         random: Random::seeded(1),
         astray: false,
-        tally: Tally::none(),
+        tally: Tally::default(),
+        wrong: false,
     };
     for _ in 0..HISTORIES {
         course.astray = !course.astray;
@@ -40,60 +43,62 @@ fn compare_all<K: GradeKind>(
     Ok(course.tally)
 }
 
-// A token that no board accepts may not be let go, so each test stops with it.
-#[test]
-fn histories_with_one_point(rt: HostRuntime) -> Result<(), Fail> {
-    match compare_all(rt.alloc(), Plain, Kind::Plain, 1) {
+/// The histories of a kind come to what is expected. A token that no board accepts may not be let go, so the test stops with it.
+fn check_histories<K: GradeKind>(
+    rt: &(impl Abort + Print),
+    heap: Global,
+    name: &str,
+    kind: K,
+    known: Kind,
+    most_code: u16,
+    expected: &str,
+) -> Result<(), Fail> {
+    match compare_all(heap, kind, known, most_code) {
         Ok(tally) => {
-            println!(rt; "Plain: {HISTORIES} sheets and histories compared, {tally}")?;
-            let text = format!(in rt.alloc(); "{tally}")?;
-            assert_eq!(rt;
-                text.as_str(),
-                "16962 takes, 19404 steps, 36880 leases refused, 3727 rechecks astray, 814 boards healed, 5714 questions too early"
-            );
+            println!(rt; "{name}: {HISTORIES} sheets and histories compared, {tally}")?;
+            let text = format!(in heap; "{tally}")?;
+            assert_eq!(rt; text.as_str(), expected);
             Ok(())
         }
-        Err(trouble) => {
-            let text = trouble.text();
-            panic!(rt; "Plain: {text}")
-        }
+        Err(trouble) => panic!(rt; "{name}: {trouble}"),
     }
+}
+
+#[test]
+fn histories_with_one_point(rt: HostRuntime) -> Result<(), Fail> {
+    check_histories(
+        &rt,
+        rt.alloc(),
+        "Plain",
+        Plain,
+        Kind::Plain,
+        1,
+        "16962 takes, 19404 steps, 36880 leases refused, 3727 rechecks astray, 814 boards healed, 5714 questions too early",
+    )
 }
 
 #[test]
 fn histories_of_releases(rt: HostRuntime) -> Result<(), Fail> {
-    match compare_all(rt.alloc(), Releases, Kind::Releases, 64) {
-        Ok(tally) => {
-            println!(rt; "Releases: {HISTORIES} sheets and histories compared, {tally}")?;
-            let text = format!(in rt.alloc(); "{tally}")?;
-            assert_eq!(rt;
-                text.as_str(),
-                "18365 takes, 22344 steps, 40282 leases refused, 4072 rechecks astray, 865 boards healed, 6374 questions too early"
-            );
-            Ok(())
-        }
-        Err(trouble) => {
-            let text = trouble.text();
-            panic!(rt; "Releases: {text}")
-        }
-    }
+    check_histories(
+        &rt,
+        rt.alloc(),
+        "Releases",
+        Releases,
+        Kind::Releases,
+        64,
+        "18365 takes, 22344 steps, 40282 leases refused, 4072 rechecks astray, 865 boards healed, 6374 questions too early",
+    )
 }
 
 #[test]
 fn histories_of_views(rt: HostRuntime) -> Result<(), Fail> {
-    match compare_all(rt.alloc(), Views, Kind::Views, 65535) {
-        Ok(tally) => {
-            println!(rt; "Views: {HISTORIES} sheets and histories compared, {tally}")?;
-            let text = format!(in rt.alloc(); "{tally}")?;
-            assert_eq!(rt;
-                text.as_str(),
-                "17928 takes, 21691 steps, 38483 leases refused, 3967 rechecks astray, 848 boards healed, 6183 questions too early"
-            );
-            Ok(())
-        }
-        Err(trouble) => {
-            let text = trouble.text();
-            panic!(rt; "Views: {text}")
-        }
-    }
+    check_histories(
+        &rt,
+        rt.alloc(),
+        "Views",
+        Views,
+        Kind::Views,
+        65535,
+        "17928 takes, 21691 steps, 38483 leases refused, 3967 rechecks astray, 848 boards healed, 6183 questions too early",
+    )
 }
