@@ -7,16 +7,6 @@ mod making;
 #[cfg(test)]
 mod running;
 
-#[cfg(test)]
-use terms::records::Inclusion;
-
 /// How many concepts and inclusions the lists of the tests have room for.
 #[cfg(test)]
 const MOST: usize = 4;
-
-#[cfg(test)]
-const NONE: Inclusion = Inclusion {
-    sub: 0,
-    sup: 0,
-    code: 0,
-};

@@ -1,5 +1,5 @@
 //! Rejections of putting, checking and making.
-use crate::{MOST, NONE};
+use crate::MOST;
 use board::board::OpenBoard;
 use board::checking;
 use grades::kind::GradeKind;
@@ -9,14 +9,12 @@ use grades::views::Views;
 use piles::marks::Marks;
 use piles::pile::Pile;
 use piles::ring::Ring;
-use reference::padded;
 use rejections::Rejection;
 use saturation::Outcome;
-use sheet::read;
+use staging::sheets::with_terms;
 use std::alloc::Global;
 use std::process::Abort;
 use std::test::Fail;
-use terms::records::Concept;
 use terms::terms::Terms;
 
 /// The greatest words of a case.
@@ -28,30 +26,35 @@ const SIZE: usize = 8;
 /// What the words are before a making.
 const BEFORE: u16 = 9;
 
-/// What is handed over for a board, and the rejection: a sheet, whose lines are filled up, how many words there are, the pile's size and a
-/// number that it holds.
+/// What a check answers.
+type Answer = Result<(), Rejection>;
+
+/// What is handed over for a board, and the answer: a sheet, whose lines are filled up, how many words there are, the pile's size and a
+/// number that it holds. The fields have no names: the cases are tables, which names would make no plainer.
 #[derive(Clone, Copy)]
-struct Case(&'static [u8], usize, usize, Option<u16>, Option<Rejection>);
+struct Case(&'static [u8], usize, usize, Option<u16>, Answer);
 
-const FOREIGN_CODE: Option<Rejection> = Some(Rejection::ForeignCode);
+const FINE: Answer = Ok(());
 
-const TOO_FEW: Option<Rejection> = Some(Rejection::TooFewWords);
+const FOREIGN_CODE: Answer = Err(Rejection::ForeignCode);
 
-const UNFIT_PILE: Option<Rejection> = Some(Rejection::UnfitPile);
+const TOO_FEW: Answer = Err(Rejection::TooFewWords);
+
+const UNFIT_PILE: Answer = Err(Rejection::UnfitPile);
 
 // Two concepts need 14 words, one needs 4, three and a role need 48.
 static PLAIN: [Case; 18] = [
-    Case(b"A\nA\nS     0     0     1\n", 14, 2, None, None),
+    Case(b"A\nA\nS     0     0     1\n", 14, 2, None, FINE),
     Case(b"A\nA\nS     0     0     2\n", 14, 2, None, FOREIGN_CODE),
-    Case(b"A\n", 4, 1, None, None),
+    Case(b"A\n", 4, 1, None, FINE),
     Case(b"A\n", 3, 1, None, TOO_FEW),
     Case(b"A\nA\n", 13, 2, None, TOO_FEW),
-    Case(b"R\nA\nT\nA\n", 48, 3, None, None),
+    Case(b"R\nA\nT\nA\n", 48, 3, None, FINE),
     Case(b"R\nA\nT\nA\n", 47, 3, None, TOO_FEW),
-    Case(b"", 0, 0, None, None),
-    Case(b"R\nR\n", 0, 0, None, None),
+    Case(b"", 0, 0, None, FINE),
+    Case(b"R\nR\n", 0, 0, None, FINE),
     Case(b"A\nA\n", 14, 1, None, UNFIT_PILE),
-    Case(b"A\nA\n", 14, 8, None, None),
+    Case(b"A\nA\n", 14, 8, None, FINE),
     Case(b"A\nA\n", 14, 2, Some(1), UNFIT_PILE),
     Case(b"A\nA\n", 14, 8, Some(7), UNFIT_PILE),
     Case(b"", 0, 1, Some(0), UNFIT_PILE),
@@ -63,27 +66,21 @@ static PLAIN: [Case; 18] = [
 ];
 
 static RELEASES: [Case; 2] = [
-    Case(b"A\nA\nS     0     0    64\n", 14, 2, None, None),
+    Case(b"A\nA\nS     0     0    64\n", 14, 2, None, FINE),
     Case(b"A\nA\nS     0     0    65\n", 14, 2, None, FOREIGN_CODE),
 ];
 
 static VIEWS: [Case; 2] = [
-    Case(b"A\nA\nS     0     0 65535\n", 14, 2, None, None),
+    Case(b"A\nA\nS     0     0 65535\n", 14, 2, None, FINE),
     Case(b"A\nA\nS     0     0 65535\n", 13, 2, None, TOO_FEW),
 ];
 
 /// How many concepts are named.
 fn named(terms: &Terms) -> usize {
-    let mut count = 0usize;
-    for c in 0..MOST as u16 {
-        if terms.is_named(c) {
-            count = count.saturating_add(1);
-        }
-    }
-    count
+    (0..MOST as u16).filter(|c| terms.is_named(*c)).count()
 }
 
-/// Checking answers the rejection. A making that is in order queues the named concepts, and any other leaves the pile and makes a board
+/// Checking answers as it must. A making that is in order queues the named concepts, and any other leaves the pile and makes a board
 /// without concepts and roles, on which no job waits.
 fn check_making<K: GradeKind, P: Pile>(
     rt: &impl Abort,
@@ -91,28 +88,20 @@ fn check_making<K: GradeKind, P: Pile>(
     words: &mut [u16],
     pile: &mut P,
     kind: K,
-    rejection: Option<Rejection>,
+    answer: Answer,
 ) -> Result<(), Fail> {
-    assert_eq!(rt; checking::check(terms, words, pile, kind).err(), rejection);
+    assert_eq!(rt; checking::check(terms, words, pile, kind), answer);
     let held = P::count(pile);
     let mut board = OpenBoard::make(terms, words, pile, kind);
     assert_eq!(rt; board.steps(), 0);
-    if rejection.is_none() {
+    if answer.is_ok() {
         assert_eq!(rt; P::count(pile), named(terms));
         return Ok(());
     }
     assert_eq!(rt; P::count(pile), held);
-    let nothing = Terms::empty(&mut [], &mut []);
-    match board.run(&nothing, pile, 0) {
-        Ok(ran) => match ran.outcome {
-            Outcome::Finished => {
-                assert_eq!(rt; ran.steps, 0);
-                Ok(())
-            },
-            _ => Err(Fail::new("a job waits on an empty board")),
-        },
-        Err(_) => Err(Fail::new("the board is not empty")),
-    }
+    let ran = board.run(&Terms::empty(&mut [], &mut []), pile, 0)?;
+    assert_eq!(rt; (ran.outcome, ran.steps), (Outcome::Finished, 0));
+    Ok(())
 }
 
 /// The words are as before a rejected making, and an accepted one has queued the first concept, if there is one.
@@ -141,35 +130,32 @@ fn check_with<K: GradeKind, P: Pile>(
     pile: &mut P,
     kind: K,
 ) -> Result<(), Fail> {
-    let Case(sheet, count, _, held, rejection) = case;
+    let Case(sheet, count, _, held, answer) = case;
     if let Some(x) = held {
         pile.put(x)?;
     }
     let mut words = [BEFORE; WORDS];
     assert!(rt; count <= WORDS);
-    check_making(rt, terms, &mut words[0..count], pile, kind, rejection)?;
-    check_words(rt, &words, sheet, rejection.is_some())
+    check_making(rt, terms, &mut words[0..count], pile, kind, answer)?;
+    check_words(rt, &words, sheet, answer.is_err())
 }
 
 /// The case with a pile of each sort.
-fn check_case<K: GradeKind>(
+fn check_piles<K: GradeKind>(
     rt: &impl Abort,
-    heap: Global,
+    terms: &Terms,
     case: Case,
     kind: K,
 ) -> Result<(), Fail> {
-    let Case(sheet, _, size, _, _) = case;
-    let mut concepts = [Concept::Atomic; MOST];
-    let mut inclusions = [NONE; MOST];
-    let mut terms = Terms::empty(&mut concepts, &mut inclusions);
-    read(&padded(heap, sheet)?, &mut terms)?;
+    let Case(_, _, size, _, _) = case;
     assert!(rt; size <= SIZE);
     let mut list = [0; SIZE];
-    check_with(rt, &terms, case, &mut Marks::new(&mut list[0..size]), kind)?;
+    check_with(rt, terms, case, &mut Marks::new(&mut list[0..size]), kind)?;
     let mut chain = [0; SIZE];
-    check_with(rt, &terms, case, &mut Ring::new(&mut chain[0..size]), kind)
+    check_with(rt, terms, case, &mut Ring::new(&mut chain[0..size]), kind)
 }
 
+/// All the cases.
 fn check_cases<K: GradeKind>(
     rt: &impl Abort,
     heap: Global,
@@ -177,7 +163,13 @@ fn check_cases<K: GradeKind>(
     kind: K,
 ) -> Result<(), Fail> {
     for case in cases {
-        check_case(rt, heap, *case, kind)?;
+        let Case(sheet, _, _, _, _) = *case;
+        with_terms(
+            heap,
+            MOST,
+            sheet,
+            |terms| check_piles(rt, terms, *case, kind),
+        )?;
     }
     Ok(())
 }

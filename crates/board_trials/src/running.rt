@@ -1,5 +1,5 @@
 //! Rejections of running, and the edges of a budget.
-use crate::{MOST, NONE};
+use crate::MOST;
 use board::board::OpenBoard;
 use board::board::running::Ran;
 use grades::kind::GradeKind;
@@ -7,25 +7,21 @@ use grades::plain::Plain;
 use piles::marks::Marks;
 use piles::pile::Pile;
 use piles::ring::Ring;
-use reference::padded;
 use rejections::Rejection;
 use saturation::Outcome;
-use sheet::read;
+use staging::sheets::with_terms;
 use std::alloc::Global;
 use std::process::Abort;
 use std::test::Fail;
-use terms::records::Concept;
 use terms::terms::Terms;
 
 /// How a run ended, and its steps.
 fn parts(answer: Result<Ran, Rejection>) -> Result<(Outcome, u64), Rejection> {
-    match answer {
-        Ok(ran) => Ok((ran.outcome, ran.steps)),
-        Err(rejection) => Err(rejection),
-    }
+    answer.map(|ran| (ran.outcome, ran.steps))
 }
 
-/// Numbers that are taken out of the pile, a budget, how a run with it ends and its steps, and the same of a second run without a limit.
+/// Numbers that are taken out of the pile, a budget, how a run with it ends and its steps, and the same of a second run without a limit. The
+/// fields have no names, as those of a table's line.
 #[derive(Clone, Copy)]
 struct Case(&'static [u16], u64, (Outcome, u64), (Outcome, u64));
 
@@ -45,11 +41,9 @@ static RUNS: [Case; 9] = [
 /// Takes the numbers out of the pile, which has at most two.
 fn take_out<P: Pile>(pile: &mut P, gone: &[u16]) {
     let drawn = [pile.draw(), pile.draw()];
-    for number in drawn.iter() {
-        if let Some(x) = *number
-            && !gone.contains(&x)
-        {
-            let _ = pile.put(x);
+    for x in drawn.iter().flatten() {
+        if !gone.contains(x) {
+            let _ = pile.put(*x);
         }
     }
 }
@@ -69,20 +63,26 @@ fn check_run<K: GradeKind>(rt: &impl Abort, terms: &Terms, kind: K, case: Case) 
     assert_eq!(rt; closed.steps(), first.1.saturating_add(second.1));
 }
 
-#[test]
-fn budgets(rt: HostRuntime) -> Result<(), Fail> {
-    let text = padded(rt.alloc(), b"A\nA\nS     0     1     1\n")?;
-    let mut concepts = [Concept::Atomic; MOST];
-    let mut inclusions = [NONE; MOST];
-    let mut terms = Terms::empty(&mut concepts, &mut inclusions);
-    read(&text, &mut terms)?;
+/// The runs on boards over the terms.
+fn check_runs(rt: &impl Abort, terms: &Terms) -> Result<(), Fail> {
     for case in RUNS.iter() {
-        check_run(&rt, &terms, Plain, *case);
+        check_run(rt, terms, Plain, *case);
     }
     Ok(())
 }
 
-/// The sheet of other terms, the size of another pile, and the rejection of a run with both.
+#[test]
+fn budgets(rt: HostRuntime) -> Result<(), Fail> {
+    with_terms(
+        rt.alloc(),
+        MOST,
+        b"A\nA\nS     0     1     1\n",
+        |terms| check_runs(&rt, terms),
+    )
+}
+
+/// The sheet of other terms, the size of another pile, and the rejection of a run with both. The fields have no names, as those of a table's
+/// line.
 #[derive(Clone, Copy)]
 struct Refusal(&'static [u8], usize, Rejection);
 
@@ -97,58 +97,66 @@ static REFUSALS: [Refusal; 6] = [
 ];
 
 /// A run with the other terms and the other pile is rejected, and leaves that pile.
-fn check_refusal<K: GradeKind>(
+fn check_refusal(
     rt: &impl Abort,
-    heap: Global,
-    board: &mut OpenBoard<K>,
+    board: &mut OpenBoard<Plain>,
+    others: &Terms,
     refusal: Refusal,
 ) -> Result<(), Fail> {
-    let Refusal(sheet, size, rejection) = refusal;
-    let mut concepts = [Concept::Atomic; MOST];
-    let mut others = Terms::empty(&mut concepts, &mut []);
-    read(&padded(heap, sheet)?, &mut others)?;
+    let Refusal(_, size, rejection) = refusal;
     let mut chain = [0; MOST];
     let mut ring = Ring::new(&mut chain[0..size.min(MOST)]);
     ring.put(1)?;
-    assert_eq!(rt; parts(board.run(&others, &mut ring, 5)), Err(rejection));
+    assert_eq!(rt; parts(board.run(others, &mut ring, 5)), Err(rejection));
     assert_eq!(rt; (ring.count(), ring.holds(1)), (1, true));
     Ok(())
 }
 
 /// Runs for two steps, with a refusal in between, if there is one, and answers how many numbers the pile then holds.
-fn run_twice<K: GradeKind>(
+fn run_twice(
     rt: &impl Abort,
     heap: Global,
     terms: &Terms,
     words: &mut [u16],
-    kind: K,
     refusal: Option<Refusal>,
 ) -> Result<usize, Fail> {
     let mut list = [0; 3];
     let mut marks = Marks::new(&mut list);
-    let mut board = OpenBoard::make(terms, words, &mut marks, kind);
+    let mut board = OpenBoard::make(terms, words, &mut marks, Plain);
     let spent = Ok((Outcome::Spent, 1));
     assert_eq!(rt; parts(board.run(terms, &mut marks, 1)), spent);
     if let Some(refusal) = refusal {
-        check_refusal(rt, heap, &mut board, refusal)?;
+        let Refusal(sheet, _, _) = refusal;
+        with_terms(
+            heap,
+            MOST,
+            sheet,
+            |others| check_refusal(rt, &mut board, others, refusal),
+        )?;
     }
     assert_eq!(rt; parts(board.run(terms, &mut marks, 1)), spent);
     Ok(marks.count())
 }
 
-#[test]
-fn rejected_runs_alter_nothing(rt: HostRuntime) -> Result<(), Fail> {
-    let text = padded(rt.alloc(), b"R\nA\nA\nT\nS     0     1     1\n")?;
-    let mut concepts = [Concept::Atomic; MOST];
-    let mut inclusions = [NONE; MOST];
-    let mut terms = Terms::empty(&mut concepts, &mut inclusions);
-    read(&text, &mut terms)?;
+/// The words and the pile end as without the refusals.
+fn check_refusals(rt: &impl Abort, heap: Global, terms: &Terms) -> Result<(), Fail> {
     let mut expected = [0; 48];
-    let count = run_twice(&rt, rt.alloc(), &terms, &mut expected, Plain, None)?;
+    let count = run_twice(rt, heap, terms, &mut expected, None)?;
     for refusal in REFUSALS.iter() {
         let mut words = [0; 48];
-        let again = run_twice(&rt, rt.alloc(), &terms, &mut words, Plain, Some(*refusal))?;
+        let again = run_twice(rt, heap, terms, &mut words, Some(*refusal))?;
         assert!(rt; again == count && words == expected);
     }
     Ok(())
+}
+
+#[test]
+fn rejected_runs_alter_nothing(rt: HostRuntime) -> Result<(), Fail> {
+    let heap = rt.alloc();
+    with_terms(
+        heap,
+        MOST,
+        b"R\nA\nA\nT\nS     0     1     1\n",
+        |terms| check_refusals(&rt, heap, terms),
+    )
 }

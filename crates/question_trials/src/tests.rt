@@ -6,23 +6,15 @@ use grades::plain::Plain;
 use grades::releases::Releases;
 use grades::views::Views;
 use piles::marks::Marks;
-use reference::padded;
 use rejections::Rejection;
-use sheet::read;
+use staging::sheets::with_terms;
 use std::alloc::Global;
 use std::process::Abort;
 use std::test::Fail;
-use terms::records::{Concept, Inclusion};
 use terms::terms::Terms;
 
 /// How many concepts and inclusions the lists have room for.
 const MOST: usize = 5;
-
-const NONE: Inclusion = Inclusion {
-    sub: 0,
-    sup: 0,
-    code: 0,
-};
 
 /// What the lists of questions are filled with at first.
 const BEFORE: u16 = 7;
@@ -38,19 +30,23 @@ enum Ask {
     Parents(u16, u8, usize),
 }
 
-/// A question, its answer, and the front of the list after it.
+/// What a question is answered.
+type Answer = Result<usize, Rejection>;
+
+/// A question, its answer, and the front of the list after it. The fields have no names: the cases are tables, which names would make no
+/// plainer.
 #[derive(Clone, Copy)]
-struct Case(Ask, Result<usize, Rejection>, &'static [u16]);
+struct Case(Ask, Answer, &'static [u16]);
 
-const NO_CONCEPT: Result<usize, Rejection> = Err(Rejection::NoSuchConcept);
+const NO_CONCEPT: Answer = Err(Rejection::NoSuchConcept);
 
-const NO_POINT: Result<usize, Rejection> = Err(Rejection::NoSuchPoint);
+const NO_POINT: Answer = Err(Rejection::NoSuchPoint);
 
-const SHORT: Result<usize, Rejection> = Err(Rejection::ShortList);
+const SHORT: Answer = Err(Rejection::ShortList);
 
-const WAITS: Result<usize, Rejection> = Err(Rejection::JobWaits);
+const WAITS: Answer = Err(Rejection::JobWaits);
 
-const OTHER: Result<usize, Rejection> = Err(Rejection::OtherTerms);
+const OTHER: Answer = Err(Rejection::OtherTerms);
 
 // Concepts 0, 1 and 2 are atomic and mates of each other; 3 is a top.
 const MATES: &[Case] = &[
@@ -132,12 +128,9 @@ fn answer<K: GradeKind>(
     terms: &Terms,
     ask: Ask,
     list: &mut [u16; LIST],
-) -> Result<usize, Rejection> {
+) -> Answer {
     match ask {
-        Ask::Under(a, d) => match board.under(terms, a, d) {
-            Ok(code) => Ok(usize::from(code)),
-            Err(rejection) => Err(rejection),
-        },
+        Ask::Under(a, d) => board.under(terms, a, d).map(usize::from),
         Ask::Mates(a, point, length) => board.mates(
             terms,
             a,
@@ -159,7 +152,7 @@ fn check_answers<K: GradeKind>(
     board: &ClosedBoard<K>,
     terms: &Terms,
     cases: &[Case],
-) {
+) -> Result<(), Fail> {
     for case in cases {
         let Case(ask, expected, front) = *case;
         let mut list = [BEFORE; LIST];
@@ -168,10 +161,11 @@ fn check_answers<K: GradeKind>(
             assert_eq!(rt; *number, front.get(place).copied().unwrap_or(BEFORE));
         }
     }
+    Ok(())
 }
 
 /// A sheet, the budget of the one run on its board, another sheet, if there is one, with whose terms questions are then asked, and the
-/// questions. The lines of the sheets are filled up.
+/// questions. The lines of the sheets are filled up. The fields have no names, as those of a table's line.
 #[derive(Clone, Copy)]
 struct Scene(&'static [u8], u64, Option<&'static [u8]>, &'static [Case]);
 
@@ -210,28 +204,46 @@ static PLAIN_SCENES: [Scene; 11] = [
     Scene(RAISED, 2, DEEPER, OTHERS),
 ];
 
-/// Makes the board of the scene, runs and closes it, and asks.
+/// Makes a board over the terms, runs and closes it, and asks with the scene's terms.
+fn check_board<K: GradeKind>(
+    rt: &impl Abort,
+    heap: Global,
+    kind: K,
+    terms: &Terms,
+    scene: Scene,
+) -> Result<(), Fail> {
+    let Scene(_, budget, other, cases) = scene;
+    let mut words = [0; 84];
+    let mut list = [0; 4];
+    let mut marks = Marks::new(&mut list);
+    let mut board = OpenBoard::make(terms, &mut words, &mut marks, kind);
+    board.run(terms, &mut marks, budget)?;
+    let closed = board.close();
+    match other {
+        None => check_answers(rt, &closed, terms, cases),
+        Some(sheet) => with_terms(
+            heap,
+            MOST,
+            sheet,
+            |others| check_answers(rt, &closed, others, cases),
+        ),
+    }
+}
+
+/// Reads the sheet of the scene, and asks.
 fn check_scene<K: GradeKind>(
     rt: &impl Abort,
     heap: Global,
     kind: K,
     scene: Scene,
 ) -> Result<(), Fail> {
-    let Scene(sheet, budget, other, cases) = scene;
-    let mut concepts = [Concept::Atomic; MOST];
-    let mut inclusions = [NONE; MOST];
-    let mut terms = Terms::empty(&mut concepts, &mut inclusions);
-    read(&padded(heap, sheet)?, &mut terms)?;
-    let mut words = [0; 84];
-    let mut list = [0; 4];
-    let mut marks = Marks::new(&mut list);
-    let mut board = OpenBoard::make(&terms, &mut words, &mut marks, kind);
-    board.run(&terms, &mut marks, budget)?;
-    if let Some(other) = other {
-        read(&padded(heap, other)?, &mut terms)?;
-    }
-    check_answers(rt, &board.close(), &terms, cases);
-    Ok(())
+    let Scene(sheet, _, _, _) = scene;
+    with_terms(
+        heap,
+        MOST,
+        sheet,
+        |terms| check_board(rt, heap, kind, terms, scene),
+    )
 }
 
 #[test]

@@ -35,7 +35,7 @@ pub struct Course {
     pub wrong: bool,
 }
 
-/// One more.
+/// One more. It stops at the greatest number, so that no count needs a proof that it fits.
 pub fn count(number: &mut u64) {
     *number = number.saturating_add(1);
 }

@@ -33,7 +33,7 @@ struct Trial<'t, K> {
     kind: K,
 }
 
-/// Does all the jobs at the lease's concept.
+/// Does all the jobs at the lease's concept. The board comes without a desk: with one the checker finds the pile at another lifetime.
 fn exhaust<K: GradeKind, Q: Pile>(
     board: &mut OpenBoard<K>,
     pile: &mut Q,
