@@ -71,11 +71,7 @@ pub fn list(text: &[u8], page: &mut [u8; PAGE]) -> Result<usize, Trouble>
         }));
     }
     let mut concepts = [Concept::Atomic; 40];
-    let mut inclusions = [Inclusion {
-        sub: 0,
-        sup: 0,
-        code: 0,
-    }; 200];
+    let mut inclusions = [Inclusion::default(); 200];
     let mut terms = Terms::empty(&mut concepts, &mut inclusions);
     read(text, &mut terms)?;
     Ok(list_terms(&terms, page, Releases)?)

@@ -11,12 +11,6 @@ use std::test::Fail;
 use terms::records::{Concept, Inclusion};
 use terms::terms::Terms;
 
-const NONE: Inclusion = Inclusion {
-    sub: 0,
-    sup: 0,
-    code: 0,
-};
-
 /// A transitive role with a role below it, and a chain of two restrictions.
 const SHEET: &[u8] =
     b"R\nR\nI     0     1\nP     1\nA\nA\nA\nA\nE     0     1\nE     1     2\nS     0     4     0\nS     1     5     2\nS     5     3     1\n";
@@ -47,7 +41,7 @@ fn shared<K: GradeKind>(terms: &Terms, words: &mut [u16], kind: K, workers: u16)
 #[test]
 fn the_number_of_workers_decides_nothing(rt: HostRuntime) -> Result<(), Fail> {
     let mut concepts = [Concept::Atomic; 6];
-    let mut inclusions = [NONE; 3];
+    let mut inclusions = [Inclusion::default(); 3];
     let mut terms = Terms::empty(&mut concepts, &mut inclusions);
     read(&padded(rt.alloc(), SHEET)?, &mut terms)?;
     let mut alone = [9; WORDS + 1];

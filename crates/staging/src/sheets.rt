@@ -6,13 +6,6 @@ use std::alloc::{AllocError, Global};
 use terms::records::{Concept, Inclusion};
 use terms::terms::Terms;
 
-/// What fills lists that nothing was read into.
-const NONE: Inclusion = Inclusion {
-    sub: 0,
-    sup: 0,
-    code: 0,
-};
-
 /// Reads a sheet, whose lines may be short, into terms with room for so many concepts and inclusions, and goes on with them.
 pub fn with_terms<T, E, F>(heap: Global, room: usize, sheet: &[u8], then: F) -> Result<T, E>
 where
@@ -22,7 +15,7 @@ where
 {
     let text = padded(heap, sheet)?;
     let mut concepts = vec![in heap; Concept::Atomic; room]?;
-    let mut inclusions = vec![in heap; NONE; room]?;
+    let mut inclusions = vec![in heap; Inclusion::default(); room]?;
     let mut terms = Terms::empty(&mut concepts, &mut inclusions);
     read(&text, &mut terms)?;
     then(&terms)

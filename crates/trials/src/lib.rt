@@ -112,11 +112,7 @@ mod tests {
     // The first fault of the text by the library's reader.
     fn fault_of(text: &[u8]) -> Option<Known> {
         let mut concepts = [Concept::Atomic; CONCEPTS];
-        let mut inclusions = [Inclusion {
-            sub: 0,
-            sup: 0,
-            code: 0,
-        }; INCLUSIONS];
+        let mut inclusions = [Inclusion::default(); INCLUSIONS];
         let mut terms = Terms::empty(&mut concepts, &mut inclusions);
         read(text, &mut terms).err().map(Known::from)
     }
