@@ -4,6 +4,7 @@ ghost use Rattle.piles.specs.Moves.{Moved};
 use crate::pile::Pile;
 
 /// Draws every number of `a` and puts it into `b`; the answer is how many of them `b` refuses, which are then in neither.
+#[tactic(auto, using(crate::proofs::Turns::drawn_fewer))]
 pub fn move_all<P: Pile, Q: Pile>(a: &mut P, b: &mut Q) -> usize
     ensures { Moved (P.Pile.numbers a.old) (Q.Pile.numbers b.old) (P.Pile.numbers a.new) (Q.Pile.numbers b.new) result }
 {

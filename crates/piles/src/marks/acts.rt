@@ -47,6 +47,7 @@ impl<'a> Pile for Marks<'a> {
         is_held(self.list, x)
     }
 
+    // `kept` stands in each pile's own clauses: they take the place of the trait's, which could not say it once for both.
     fn put(&mut self, x: u16) -> Result<(), Rejection>
         ensures set { Put (in_marks self.old) (in_marks self.new) x result }
         ensures kept { RestKept self.old.list self.new.list }

@@ -42,6 +42,7 @@ impl<'a> Pile for Ring<'a> {
         is_held(self.list, x)
     }
 
+    #[tactic(auto, using(crate::proofs::Rings::tail_below))]
     fn put(&mut self, x: u16) -> Result<(), Rejection>
         ensures set { Put (in_ring self.old) (in_ring self.new) x result }
         ensures order { Queued (order self.old) (order self.new) x result }
@@ -67,6 +68,7 @@ impl<'a> Pile for Ring<'a> {
         Ok(())
     }
 
+    #[tactic(auto, using(crate::proofs::Rings::head_below))]
     fn draw(&mut self) -> Option<u16>
         ensures set { Drew (in_ring self.old) (in_ring self.new) result }
         ensures order { Served (order self.old) (order self.new) result }

@@ -1,15 +1,6 @@
 use Rattle.std.proofs.Common.{sym, ◌∙◌, arith}
-use Rattle.piles.proofs.Turns.{refused_small, moving_start, moving_kept, moving_lost, moving_end, drawn_fewer}
+use Rattle.piles.proofs.Turns.{refused_small, moving_kept, moving_lost, moving_end}
 use Rattle.piles.proofs.moving.move_all.Goals as goal
-
-pub loop-x-init : goal.loop-x-init
-loop-x-init g c = moving_start (g.P.Pile.numbers c.args.a.now) (g.Q.Pile.numbers c.args.b.now)
-
-pub loop-x-smaller : goal.loop-x-smaller
-loop-x-smaller g c = omega (arith, drawn_fewer (g.P.Pile.numbers c.loop-x.a) (g.P.Pile.numbers c.draw.new.self) c.in-Some.x c.in-Some.ensures.set)
-
-pub loop-x-smaller-then-is_err : goal.loop-x-smaller-then-is_err
-loop-x-smaller-then-is_err g c = omega (arith, drawn_fewer (g.P.Pile.numbers c.loop-x.a) (g.P.Pile.numbers c.draw.new.self) c.in-Some.x c.in-Some.ensures.set)
 
 pub loop-x-preserved : goal.loop-x-preserved
 loop-x-preserved g c =

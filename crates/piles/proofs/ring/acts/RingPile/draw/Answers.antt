@@ -5,26 +5,11 @@ use Rattle.piles.proofs.Entries.{held_without, entry_of_held, rest_written}
 use Rattle.piles.proofs.Rings.{sound_of, head_on, head_below, drawn}
 use Rattle.piles.proofs.ring.acts.RingPile.draw.Goals as goal
 
-pub offset_bounds-self-first : goal.offset_bounds-self-first
-offset_bounds-self-first c = omega (arith, head_below c.args.self.now c.if-self-eq0.false)
-
-pub bounds-self-first : goal.bounds-self-first
-bounds-self-first c = omega (arith, head_below c.args.self.now c.if-self-eq0.false)
-
-pub offset_bounds-self-first-2 : goal.offset_bounds-self-first-2
-offset_bounds-self-first-2 c = omega (arith, head_below c.args.self.now c.if-self-eq0.false)
-
-pub bounds-self-first-2 : goal.bounds-self-first-2
-bounds-self-first-2 c = omega (arith, head_below c.args.self.now c.if-self-eq0.false)
-
 pub overflow_sub-self : goal.overflow_sub-self
 overflow_sub-self c =
     let r = c.args.self.now in
     let not-zero = entry_of_held r.list.now r.head (head_on r c.if-self-eq0.false) in
     omega arith
-
-pub overflow_cast-result : goal.overflow_cast-result
-overflow_cast-result c = omega (arith, head_below c.args.self.now c.if-self-eq0.false)
 
 pub invariant_of-self : goal.invariant_of-self
 invariant_of-self c =
@@ -43,12 +28,8 @@ returns c =
       kept = record { same = refl; kept = rest_written r.list.now r.head 0 (omega arith) };
     }
 
-pub returns-then-self-eq0 : goal.returns-then-self-eq0
-returns-then-self-eq0 c =
+pub returns-then-self-eq0-clause-set : goal.returns-then-self-eq0-clause-set
+returns-then-self-eq0-clause-set c =
     let r = c.args.self.now in
     let none : walk r.list.now r.head r.count ≡ [] = ap (walk r.list.now r.head) c.if-self-eq0.true in
-    record {
-      set = (refl, (λ y. sym (r.visits y) ∙ ap (has y) none), λ y. refl);
-      order = (none, none);
-      kept = record { same = refl; kept = refl };
-    }
+    (refl, (λ y. sym (r.visits y) ∙ ap (has y) none), λ y. refl)

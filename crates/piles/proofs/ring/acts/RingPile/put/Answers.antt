@@ -12,12 +12,6 @@ use Rattle.piles.proofs.Rings.{sound_of, tail_below}
 use Rattle.piles.proofs.ring.acts.RingPile.put.Goals as goal
 use Rattle.piles.proofs.ring.acts.RingPile.put.Goals.{then-self-eq0, else-self-eq0, Joined-self-eq0}
 
-pub bounds-self-last : goal.bounds-self-last
-bounds-self-last c = omega (arith, tail_below c.args.self.now c.if-self-eq0.false)
-
-pub offset_bounds-self-last : goal.offset_bounds-self-last
-offset_bounds-self-last c = omega (arith, tail_below c.args.self.now c.if-self-eq0.false)
-
 pub invariant_of-self-else-self-eq0 : goal.invariant_of-self-else-self-eq0
 invariant_of-self-else-self-eq0 c =
     let r = c.args.self.now in
