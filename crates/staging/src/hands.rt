@@ -66,7 +66,7 @@ impl Hand {
 }
 
 impl<'b, 'w, 'p, 't, K, P> Desk<'b, 'w, 'p, 't, K, P> {
-    /// The board with its pile and the terms. Callers make desks by this call, since they are not proved where they make them by a literal.
+    /// The board with its pile and the terms. Where a board is used after its desk, only a desk that this call made is proved.
     pub fn new(board: &'b mut OpenBoard<'w, K>, pile: &'p mut P, terms: &'t Terms<'t>) -> Self {
         Desk { board, pile, terms }
     }
