@@ -21,11 +21,11 @@ use Rattle.sheet.specs.Sheet.{lines_in, count_lines, sheet_of, Took, none, more}
 record Grown (es : List Entry) (s u : Terms) : Type 0 where
   contents : contents_of u ≡ with_entries es (contents_of s)
   lists : Filled s u
-  concepts : s.concepts.count ≤ u.concepts.count
-  inclusions : s.inclusions.count ≤ u.inclusions.count
+  concepts : s.concept_count ≤ u.concept_count
+  inclusions : s.inclusion_count ≤ u.inclusion_count
 
 grown : {es : List Entry} {s u : Terms} → Took Added es s u → Grown es s u
-grown {es} {s} none = record { contents = refl; lists = same_lists s s refl refl; concepts = omega arith; inclusions = omega arith }
+grown {es} {s} none = record { contents = refl; lists = same_lists s s refl refl refl refl; concepts = omega arith; inclusions = omega arith }
 grown (more {e} {es} {s} {t} {u} a k) =
     let g = grown k in
     let m = added_more e s t a in

@@ -10,14 +10,14 @@ use Rattle.terms.specs.Views.{contents_of}
 
 -- how many concepts and inclusions the lists of the terms and the limits allow
 abbrev pub room_of : Terms → Room
-room_of t = room_for (length t.concepts.list.now) (length t.inclusions.list.now)
+room_of t = room_for (length t.concepts.now) (length t.inclusions.now)
 
 -- how many entries the terms hold, and how many they may
 abbrev pub tally_of : Terms → Tally
 tally_of t = record {
-  concepts = t.concepts.count;
+  concepts = t.concept_count;
   roles = t.role_count;
-  inclusions = t.inclusions.count;
+  inclusions = t.inclusion_count;
   room = room_of t;
 }
 
@@ -27,12 +27,12 @@ onto xs ys = xs ++ drop (length xs) ys
 
 -- the terms u have the lists of the terms t, with what u holds written over the fronts
 pub record Filled (t u : Terms) : Type 0 where
-  pub same_concepts : u.concepts.list.ghost_name ≡ t.concepts.list.ghost_name
-  pub same_inclusions : u.inclusions.list.ghost_name ≡ t.inclusions.list.ghost_name
-  pub long_concepts : length u.concepts.list.now ≡ length t.concepts.list.now
-  pub long_inclusions : length u.inclusions.list.now ≡ length t.inclusions.list.now
-  pub concepts : u.concepts.list.now ≡ onto (contents_of u).concepts t.concepts.list.now
-  pub inclusions : u.inclusions.list.now ≡ onto (contents_of u).inclusions t.inclusions.list.now
+  pub same_concepts : u.concepts.ghost_name ≡ t.concepts.ghost_name
+  pub same_inclusions : u.inclusions.ghost_name ≡ t.inclusions.ghost_name
+  pub long_concepts : length u.concepts.now ≡ length t.concepts.now
+  pub long_inclusions : length u.inclusions.now ≡ length t.inclusions.now
+  pub concepts : u.concepts.now ≡ onto (contents_of u).concepts t.concepts.now
+  pub inclusions : u.inclusions.now ≡ onto (contents_of u).inclusions t.inclusions.now
 
 -- the terms u are the terms t with one entry more
 abbrev pub Added : Entry → Terms → Terms → Type 0

@@ -7,8 +7,8 @@ use Rattle.terms.specs.Vocabularies.{Vocabulary}
 -- the fronts of the lent lists, and the roles
 abbrev pub contents_of : Terms → Contents
 contents_of t = record {
-  concepts = take t.concepts.count t.concepts.list.now;
-  inclusions = take t.inclusions.count t.inclusions.list.now;
+  concepts = take t.concept_count t.concepts.now;
+  inclusions = take t.inclusion_count t.inclusions.now;
   roles = t.role_count;
   order = t.order;
   transitive = t.transitive;

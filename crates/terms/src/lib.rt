@@ -3,8 +3,6 @@
 
 pub mod collector;
 pub mod entry;
-mod front;
 pub mod records;
 pub mod tally;
 pub mod terms;
-mod words;

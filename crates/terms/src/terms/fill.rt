@@ -9,21 +9,21 @@ ghost use Rattle.terms.specs.Views.{contents_of};
 
 use super::Terms;
 use crate::entry::Entry;
-use crate::front::Front;
 use crate::records::{Concept, Inclusion};
 use crate::tally::{Room, Tally};
-use crate::words::has_bit;
 
 impl<'a> Terms<'a> {
     /// The empty vocabulary over two lists, whose entries stay as they are.
     pub fn empty(concepts: &'a mut [Concept], inclusions: &'a mut [Inclusion]) -> Terms<'a>
         ensures contents { contents_of result ≡ nothing }
-        ensures concepts { (result.concepts.list.now ≡ concepts.old) × (result.concepts.list.ghost_name ≡ concepts.entry.ghost_name) }
-        ensures inclusions { (result.inclusions.list.now ≡ inclusions.old) × (result.inclusions.list.ghost_name ≡ inclusions.entry.ghost_name) }
+        ensures concepts { (result.concepts.now ≡ concepts.old) × (result.concepts.ghost_name ≡ concepts.entry.ghost_name) }
+        ensures inclusions { (result.inclusions.now ≡ inclusions.old) × (result.inclusions.ghost_name ≡ inclusions.entry.ghost_name) }
     {
         Terms {
-            concepts: Front::new(concepts),
-            inclusions: Front::new(inclusions),
+            concepts,
+            concept_count: 0,
+            inclusions,
+            inclusion_count: 0,
             role_count: 0,
             order: [0; 32],
             transitive: 0,
@@ -35,8 +35,8 @@ impl<'a> Terms<'a> {
         ensures contents { contents_of self.new ≡ nothing }
         ensures lists { Filled self.old self.new }
     {
-        self.concepts.clear();
-        self.inclusions.clear();
+        self.concept_count = 0;
+        self.inclusion_count = 0;
         self.role_count = 0;
         self.order = [0; 32];
         self.transitive = 0;
@@ -47,10 +47,10 @@ impl<'a> Terms<'a> {
         ensures { result ≡ tally_of self.now }
     {
         Tally {
-            concepts: self.concepts.len(),
+            concepts: self.concept_count,
             roles: self.role_count,
-            inclusions: self.inclusions.len(),
-            room: Room::within(self.concepts.room(), self.inclusions.room()),
+            inclusions: self.inclusion_count,
+            room: Room::within(self.concepts.len(), self.inclusions.len()),
         }
     }
 
@@ -60,17 +60,38 @@ impl<'a> Terms<'a> {
         ensures { Added entry self.old self.new }
     {
         match entry {
-            Entry::Concept(c) => self.concepts.push(c),
-            Entry::Role => {
-                self.order[self.role_count] = 1 << self.role_count;
-                self.role_count += 1;
-            }
+            Entry::Concept(c) => self.put_concept(c),
+            Entry::Role => self.put_role(),
             Entry::Order(r, s) => self.put_order(r, s),
-            Entry::Transitive(r) => self.transitive |= 1 << r,
-            Entry::Inclusion(i) => self.inclusions.push(i),
+            Entry::Transitive(r) => self.put_transitive(r),
+            Entry::Inclusion(i) => self.put_inclusion(i),
         }
     }
-    // What is below r is now below what is above s. A loop, since the goals on the new rows stayed open with `map`.
+
+    fn put_concept(&mut self, c: Concept)
+        requires { Allowed (tally_of self.old) (Stated.Concept c) }
+        ensures { Added (Stated.Concept c) self.old self.new }
+    {
+        self.concepts[self.concept_count] = c;
+        self.concept_count += 1;
+    }
+
+    fn put_inclusion(&mut self, i: Inclusion)
+        requires { Allowed (tally_of self.old) (Stated.Inclusion i) }
+        ensures { Added (Stated.Inclusion i) self.old self.new }
+    {
+        self.inclusions[self.inclusion_count] = i;
+        self.inclusion_count += 1;
+    }
+
+    fn put_role(&mut self)
+        requires { Allowed (tally_of self.old) Stated.Role }
+        ensures { Added Stated.Role self.old self.new }
+    {
+        self.order[self.role_count] = 1 << self.role_count;
+        self.role_count += 1;
+    }
+
     fn put_order(&mut self, r: u16, s: u16)
         requires { Allowed (tally_of self.old) (Stated.Order r s) }
         ensures { Added (Stated.Order r s) self.old self.new }
@@ -80,15 +101,19 @@ impl<'a> Terms<'a> {
             *row = climb(*row, r, up);
         }
     }
+
+    fn put_transitive(&mut self, r: u16)
+        requires { Allowed (tally_of self.old) (Stated.Transitive r) }
+        ensures { Added (Stated.Transitive r) self.old self.new }
+    {
+        self.transitive |= 1 << r;
+    }
 }
 
 // A row that has the role r takes the row `up` too.
 fn climb(row: u32, r: u16, up: u32) -> u32
+    requires { r < 32 }
     ensures { result ≡ climbed r up row }
 {
-    if has_bit(row, usize::from(r)) {
-        row | up
-    } else {
-        row
-    }
+    if (row >> r) % 2 == 1 { row | up } else { row }
 }

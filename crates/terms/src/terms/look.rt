@@ -5,21 +5,22 @@ ghost use Rattle.terms.specs.Vocabularies.{is_named};
 
 use super::Terms;
 use crate::records::{Concept, Inclusion};
-use crate::words::has_bit;
 
 impl<'a> Terms<'a> {
     /// The concepts, by their numbers.
     pub fn concepts(&self) -> &[Concept]
         ensures { result.now ≡ (terms_of self.now).concepts }
     {
-        self.concepts.as_slice()
+        let all = &*self.concepts;
+        &all[0..self.concept_count]
     }
 
     /// The inclusions, in the order of their statement.
     pub fn inclusions(&self) -> &[Inclusion]
         ensures { result.now ≡ (terms_of self.now).inclusions }
     {
-        self.inclusions.as_slice()
+        let all = &*self.inclusions;
+        &all[0..self.inclusion_count]
     }
 
     /// How many roles there are.
@@ -33,14 +34,14 @@ impl<'a> Terms<'a> {
     pub fn is_below(&self, r: usize, s: usize) -> bool
         ensures { result ≡ (terms_of self.now).below r s }
     {
-        self.order.get(r).is_some_and(|row| has_bit(*row, s))
+        r < 32 && s < 32 && (self.order[r] >> s) % 2 == 1
     }
 
     /// Whether the role is transitive; false for a number that is no role.
     pub fn is_transitive(&self, r: usize) -> bool
         ensures { result ≡ (terms_of self.now).transitive r }
     {
-        has_bit(self.transitive, r)
+        r < 32 && (self.transitive >> r) % 2 == 1
     }
 
     /// Whether the number is that of a named concept: one that counts in start facts, listings and questions.

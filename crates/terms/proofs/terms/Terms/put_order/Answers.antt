@@ -39,5 +39,5 @@ returns c =
     let s = c.args.self.now in
     let long : length s.order ≡ 32 = search rules in (
       ap (with_order (contents_of s)) (done _ _ _ c.loop-row.row-index (omega arith) c.loop-row.invariant),
-      same_lists s _ refl refl,
+      same_lists s _ refl refl refl refl,
     )
