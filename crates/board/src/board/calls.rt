@@ -83,7 +83,9 @@ impl<'a, K: GradeKind> OpenBoard<'a, K> {
         ensures sane { StaysSane K.GradeKind.kind self.old self.new }
         ensures lowered { LoweredBy lease self.old self.new result }
     {
-        if usize::from(lease.concept) < self.counts.concepts && self.shift(lease.concept, Change::Lower) {
+        if usize::from(lease.concept) < self.counts.concepts
+            && self.shift(lease.concept, Change::Lower)
+        {
             let Lease { concept } = lease;
             Ok(LoweredLease { concept })
         } else {

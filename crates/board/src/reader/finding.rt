@@ -138,7 +138,9 @@ impl<'b> Reading<'b> {
         requires { c < length (terms_of self.now.terms.now).concepts }
         ensures { MatchOption result (NoImplications (terms_of self.now.terms.now) (read_of self.now.reader) c (terms_of self.now.terms.now).roles) (λ j. (s : ℕ) × (e : ℕ) × (j ≡ imply s c e) × FirstImplication (terms_of self.now.terms.now) (read_of self.now.reader) c s e) }
     {
-        (0..self.reader.counts.roles as u16).find_map(|s| self.reader.first_on(Line::Implications(s, c)))
+        (0..self.reader.counts.roles as u16).find_map(|s| self
+            .reader
+            .first_on(Line::Implications(s, c)))
     }
 
     /// The first job that waits at `c`: own jobs come first, then link jobs, then implication jobs.
