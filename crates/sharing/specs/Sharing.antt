@@ -8,8 +8,7 @@ use Rattle.saturation.specs.declared.State.TheVariants.{Held}
 use Rattle.saturation.specs.Boards.{Moment, Sane}
 use Rattle.saturation.specs.Histories.{Event, lowered, rechecked, Leads, History, granted, given_back, unrechecked}
 use Rattle.saturation.specs.AnyOrder.{AllDone}
-use Rattle.board.specs.Stages.{OpenBoard}
-use Rattle.board.specs.Stages.{ClosedBoard}
+use Rattle.board.specs.Stages.{OpenBoard, ClosedBoard}
 use Rattle.board.specs.Layout.{room}
 use Rattle.board.specs.Views.{board_of, closed_of, moment_of}
 use Rattle.board.specs.Frames.{Kept}
