@@ -6,9 +6,6 @@ use Rattle.board.proofs.Frames.{kept_same}
 use Rattle.board.proofs.Rechecking.{rechecked_queued, rechecked_quiet, rechecks_wake}
 use Rattle.board.proofs.board.OpenBoard.review.Goals as goal
 
-pub queue-requires : goal.queue-requires
-queue-requires g c = record { within = omega (arith, c.requires.ready.concepts); wide = c.requires.ready.wide; waking = rechecks_wake }
-
 pub returns-then-is_some : goal.returns-then-is_some
 returns-then-is_some g c =
     let job = some_of _ c.first.result (sym c.if-is_some.ensures) c.first.ensures in

@@ -12,12 +12,6 @@ use Rattle.board.proofs.Shifting.{sane_is}
 use Rattle.board.proofs.AsStated.{as_stated, still_sane}
 use Rattle.board.proofs.board.OpenBoard.step.Goals as goal
 
-pub work-requires : goal.work-requires
-work-requires g c =
-    let R = c.in_ok-admit.ensures in
-    let H = c.if-not-is_held.ensures.held refl in
-    record { ready = R; left = omega (arith, R.concepts, H.0); held = H.1 }
-
 pub returns-in_err-admit : goal.returns-in_err-admit
 returns-in_err-admit g c =
     let p = err_from_is_err_and c.from_residual.result c.from_residual.ensures.1 in

@@ -5,9 +5,6 @@ use Rattle.board.specs.JoinDraws.{ByFiller}
 use Rattle.board.proofs.Sessions.{in_terms, session_at, session_guarded}
 use Rattle.board.proofs.board.session.Session.draw_filler.Goals as goal
 
-pub draw_join-requires : goal.draw_join-requires
-draw_join-requires g c = let s = c.args.self.now in (in_terms s c.requires.by, in_terms s c.requires.right)
-
 pub returns-then-b-implication : goal.returns-then-b-implication
 returns-then-b-implication g c =
     let k = g.K.GradeKind.kind in

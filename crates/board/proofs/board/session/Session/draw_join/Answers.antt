@@ -11,9 +11,6 @@ use Rattle.board.proofs.Sessions.{session_guarded, session_then, session_none}
 use Rattle.board.proofs.JoinRules.{roles_done}
 use Rattle.board.proofs.board.session.Session.draw_join.Goals as goal
 
-pub draw_roles-requires : goal.draw_roles-requires
-draw_roles-requires g c = subst (λ t. Placed (terms_of t) c.args.partners) (sym c.draw_partners.ensures.same.terms) c.requires
-
 pub returns-then-is_below : goal.returns-then-is_below
 returns-then-is_below g c =
     let v = terms_of c.args.self.now.terms.now in
