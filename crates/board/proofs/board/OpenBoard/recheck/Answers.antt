@@ -3,7 +3,6 @@ use Rattle.terms.specs.Views.{terms_of}
 use Rattle.saturation.specs.Effects.{SameGrades}
 use Rattle.board.specs.Views.{board_of}
 use Rattle.board.specs.Refusals.{RecheckRejected}
-use Rattle.board.proofs.Frames.{kept_same}
 use Rattle.board.proofs.AsStated.{same_sane}
 use Rattle.board.proofs.board.OpenBoard.recheck.Goals as goal
 

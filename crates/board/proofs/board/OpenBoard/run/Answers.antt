@@ -1,7 +1,7 @@
 use Rattle.std.proofs.Common.{◌<◌, refl, arith}
 use Rattle.std.proofs.lemmas.Result.{err_from_is_err_and}
 use Rattle.terms.specs.Views.{terms_of}
-use Rattle.board.proofs.Frames.{kept_same, kept_then, ready_kept}
+use Rattle.board.proofs.Frames.{kept_same, kept_then}
 use Rattle.board.proofs.Running.{rolling_none, rolling_more, rolling_less, rolling_finished, rolling_spent, rolling_left, sane_then}
 use Rattle.board.proofs.board.OpenBoard.run.Goals as goal
 

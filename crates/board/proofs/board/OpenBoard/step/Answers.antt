@@ -1,4 +1,4 @@
-use Rattle.std.proofs.Common.{length, sym, refl, subst, subst₂, arith}
+use Rattle.std.proofs.Common.{length, sym, refl, subst, subst₂}
 use Rattle.std.proofs.lemmas.Result.{err_from_is_err_and}
 use Rattle.terms.specs.Views.{terms_of}
 use Rattle.saturation.specs.Boards.{Sane}

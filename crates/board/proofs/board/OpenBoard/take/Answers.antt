@@ -8,7 +8,7 @@ use Rattle.board.specs.Views.{board_of}
 use Rattle.board.specs.Moves.{after}
 use Rattle.board.specs.Refusals.{TakeRejected}
 use Rattle.board.proofs.Options.{ok_or_some, ok_or_none}
-use Rattle.board.proofs.Frames.{framed_same, kept_same}
+use Rattle.board.proofs.Frames.{framed_same}
 use Rattle.board.proofs.Shifting.{shift_no, not_queued, put_back, framed_is, sane_is}
 use Rattle.board.proofs.board.OpenBoard.take.Goals as goal
 use Rattle.board.proofs.board.OpenBoard.take.Goals.{else-from-self-via-then-from-self+else-shift, else-from-self-via-else-from-self}

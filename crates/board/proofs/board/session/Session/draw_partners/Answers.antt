@@ -1,7 +1,7 @@
-use Rattle.std.proofs.Common.{◌≡◌, ◌<◌, length, sym, ap, subst, arith}
+use Rattle.std.proofs.Common.{◌≡◌, ◌<◌, length, sym, ap, arith}
 use Rattle.terms.specs.Views.{terms_of}
 use Rattle.board.specs.Views.{board_of}
-use Rattle.board.specs.JoinDraws.{partner, Placed, Heads, ByPartner}
+use Rattle.board.specs.JoinDraws.{partner, ByPartner}
 use Rattle.board.proofs.Sessions.{rounds_none, rounds_more, rounds_all}
 use Rattle.board.proofs.JoinRules.{partner_within, partner_done}
 use Rattle.board.proofs.board.session.Session.draw_partners.Goals as goal

@@ -5,7 +5,7 @@ use Rattle.reasoning.specs.declared.Job.{Job}
 use Rattle.reasoning.specs.Derivations.{Within, fact_of}
 use Rattle.board.specs.declared.board.joins.Head.TheVariants.{Through}
 use Rattle.board.specs.Views.{board_of}
-use Rattle.board.specs.JoinDraws.{Placed, ByRole}
+use Rattle.board.specs.JoinDraws.{ByRole}
 use Rattle.board.specs.Sessions.{SessionDrawn}
 use Rattle.board.proofs.Sessions.{session_alike, session_moved, session_none, rounds_none, rounds_more, rounds_all}
 use Rattle.board.proofs.JoinRules.{partners_done}
