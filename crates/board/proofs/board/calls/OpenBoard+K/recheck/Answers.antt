@@ -3,20 +3,16 @@ use Rattle.terms.specs.Views.{terms_of}
 use Rattle.saturation.specs.Effects.{SameGrades}
 use Rattle.board.specs.Views.{board_of}
 use Rattle.board.specs.Refusals.{RecheckRejected}
-use Rattle.board.proofs.Frames.{kept_same}
 use Rattle.board.proofs.AsStated.{same_sane}
 use Rattle.board.proofs.board.calls.OpenBoard+K.recheck.Goals as goal
 
-pub review-requires : goal.review-requires
-review-requires g c = let R = c.in_default.ensures in record { ready = R; left = omega (arith, R.concepts) }
+pub returns-in-Err-clause-rechecked : goal.returns-in-Err-clause-rechecked
+returns-in-Err-clause-rechecked g c = (RecheckRejected.unready c.in-Err.ensures, refl, refl, refl)
 
-pub returns-in-Err : goal.returns-in-Err
-returns-in-Err g c = record { kept = kept_same; sane = λ S. S; rechecked = (RecheckRejected.unready c.in-Err.ensures, refl, refl, refl) }
-
-pub returns-then-from-self : goal.returns-then-from-self
-returns-then-from-self g c =
+pub returns-then-from-self-clause-rechecked : goal.returns-then-from-self-clause-rechecked
+returns-then-from-self-clause-rechecked g c =
     let R = c.in_default.ensures in
-    record { kept = kept_same; sane = λ S. S; rechecked = (RecheckRejected.unfit_lease (R.concepts, R.roles) R.wide (omega (arith, c.from.ensures)), refl, refl, refl) }
+    (RecheckRejected.unfit_lease (R.concepts, R.roles) R.wide (omega (arith, c.from.ensures)), refl, refl, refl)
 
 pub returns : goal.returns
 returns g c =

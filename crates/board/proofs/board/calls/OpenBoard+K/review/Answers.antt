@@ -1,13 +1,10 @@
-use Rattle.std.proofs.Common.{sym, arith}
+use Rattle.std.proofs.Common.{sym}
 use Rattle.terms.specs.Views.{terms_of}
 use Rattle.board.specs.Views.{moment_of}
 use Rattle.board.proofs.Options.{some_of, none_of}
 use Rattle.board.proofs.Frames.{kept_same}
-use Rattle.board.proofs.Rechecking.{rechecked_queued, rechecked_quiet, rechecks_wake}
+use Rattle.board.proofs.Rechecking.{rechecked_queued, rechecked_quiet}
 use Rattle.board.proofs.board.calls.OpenBoard+K.review.Goals as goal
-
-pub queue-requires : goal.queue-requires
-queue-requires g c = record { within = omega (arith, c.requires.ready.concepts); wide = c.requires.ready.wide; waking = rechecks_wake }
 
 pub returns-then-is_some : goal.returns-then-is_some
 returns-then-is_some g c =

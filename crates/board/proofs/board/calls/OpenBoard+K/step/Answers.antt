@@ -1,4 +1,4 @@
-use Rattle.std.proofs.Common.{length, sym, refl, subst, subst₂, arith}
+use Rattle.std.proofs.Common.{length, sym, refl, subst, subst₂}
 use Rattle.std.proofs.lemmas.Result.{err_from_is_err_and}
 use Rattle.terms.specs.Views.{terms_of}
 use Rattle.saturation.specs.Boards.{Sane}
@@ -11,12 +11,6 @@ use Rattle.board.proofs.Frames.{kept_same}
 use Rattle.board.proofs.Shifting.{sane_is}
 use Rattle.board.proofs.AsStated.{as_stated, still_sane}
 use Rattle.board.proofs.board.calls.OpenBoard+K.step.Goals as goal
-
-pub work-requires : goal.work-requires
-work-requires g c =
-    let R = c.in_ok-admit.ensures in
-    let H = c.if-not-is_held.ensures.held refl in
-    record { ready = R; left = omega (arith, R.concepts, H.0); held = H.1 }
 
 pub returns-in_err-admit : goal.returns-in_err-admit
 returns-in_err-admit g c =

@@ -8,13 +8,13 @@ use Rattle.board.specs.Views.{board_of}
 use Rattle.board.specs.Moves.{after}
 use Rattle.board.specs.Refusals.{TakeRejected}
 use Rattle.board.proofs.Options.{ok_or_some, ok_or_none}
-use Rattle.board.proofs.Frames.{framed_same, kept_same}
+use Rattle.board.proofs.Frames.{framed_same}
 use Rattle.board.proofs.Shifting.{shift_no, not_queued, put_back, framed_is, sane_is}
 use Rattle.board.proofs.board.calls.OpenBoard+K.take.Goals as goal
 use Rattle.board.proofs.board.calls.OpenBoard+K.take.Goals.{else-from-self-via-then-from-self+else-shift, else-from-self-via-else-from-self}
 
-pub returns-then-size-self : goal.returns-then-size-self
-returns-then-size-self g c = record { kept = kept_same; sane = λ S. S; taken = (TakeRejected.small_pile (omega arith), refl, λ x. refl, λ _. refl) }
+pub returns-then-size-self-clause-taken : goal.returns-then-size-self-clause-taken
+returns-then-size-self-clause-taken g c = (TakeRejected.small_pile (omega arith), refl, λ x. refl, λ _. refl)
 
 pub returns-in_err-concept : goal.returns-in_err-concept
 returns-in_err-concept g c =

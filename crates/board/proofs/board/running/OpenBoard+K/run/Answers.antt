@@ -1,18 +1,9 @@
 use Rattle.std.proofs.Common.{◌<◌, refl, arith}
 use Rattle.std.proofs.lemmas.Result.{err_from_is_err_and}
 use Rattle.terms.specs.Views.{terms_of}
-use Rattle.board.proofs.Frames.{kept_same, kept_then, ready_kept}
+use Rattle.board.proofs.Frames.{kept_same, kept_then}
 use Rattle.board.proofs.Running.{rolling_none, rolling_more, rolling_less, rolling_finished, rolling_spent, rolling_left, sane_then}
 use Rattle.board.proofs.board.running.OpenBoard+K.run.Goals as goal
-
-pub any_waits-requires : goal.any_waits-requires
-any_waits-requires g c = let R = ready_kept c.loop-budget.invariant.kept c.in_ok-admit.ensures in record { concepts = R.concepts; roles = R.roles }
-
-pub turn-steps-requires : goal.turn-steps-requires
-turn-steps-requires g c =
-    let K = c.in-Ok.ensures.kept in
-    let T = c.in-Ok.ensures.taken.1 in
-    record { ready = ready_kept (kept_then c.loop-budget.invariant.kept K) c.in_ok-admit.ensures; held = (omega (arith, T.within, K.frame.concepts), T.held) }
 
 pub returns-in_err-admit : goal.returns-in_err-admit
 returns-in_err-admit g c =

@@ -20,17 +20,9 @@ draw_link-requires g c =
       filler = on_board s (filler_below (terms_of s.terms.now) (well_formed s.terms.now) c.in-Link.right c.in-Restriction.role c.in-Restriction.filler (in_terms s w.1, sym c.in-Restriction.ensures));
     }
 
-pub returns-in-Own : goal.returns-in-Own
-returns-in-Own g c =
-    session_at (λ v j. ByJob v g.K.GradeKind.kind (board_of c.args.self.now.board.now).done j c.args.grade) (λ _. c.args.job) (sym c.in-Own.is) c.draw_own.ensures
-
 pub returns-in-Restriction : goal.returns-in-Restriction
 returns-in-Restriction g c =
     let k = g.K.GradeKind.kind in
     let done = (board_of c.args.self.now.board.now).done in
     session_at (λ v j. ByJob v k done j c.args.grade) (λ _. c.args.job) (sym c.in-Link.is)
     (session_at (λ v κ. ByLinked v k done c.in-Link.left c.args.grade κ) (λ v. get_or v.concepts c.in-Link.right Atomic) c.in-Restriction.ensures c.draw_link.ensures)
-
-pub returns-in-Imply : goal.returns-in-Imply
-returns-in-Imply g c =
-    session_at (λ v j. ByJob v g.K.GradeKind.kind (board_of c.args.self.now.board.now).done j c.args.grade) (λ _. c.args.job) (sym c.in-Imply.is) c.draw_implication.ensures

@@ -8,11 +8,6 @@ use Rattle.board.proofs.Sessions.{in_terms, rounds_none, rounds_more, rounds_all
 use Rattle.board.proofs.Shapes.{concept_done}
 use Rattle.board.proofs.board.session.Session.draw_concepts.Goals as goal
 
-pub draw_concept-requires : goal.draw_concept-requires
-draw_concept-requires g c =
-    let n = c.loop-x.invariant.drawn.kept.frame.concepts in
-    record { left = omega (arith, n, c.requires); right = omega (arith, n, c.args.self.now.ready.concepts, ap length c.concepts-x-end.ensures) }
-
 pub loop-x-init : goal.loop-x-init
 loop-x-init g c = rounds_none g.met.K.GradeKind.lawful
 

@@ -2,11 +2,8 @@ use Rattle.std.proofs.Common.{◌≡◌, get_or}
 use Rattle.terms.specs.declared.records.Concept.TheVariants.{Atomic}
 use Rattle.board.specs.Views.{board_of}
 use Rattle.board.specs.JoinDraws.{ByFiller}
-use Rattle.board.proofs.Sessions.{in_terms, session_at, session_guarded}
+use Rattle.board.proofs.Sessions.{session_at, session_guarded}
 use Rattle.board.proofs.board.session.Session.draw_filler.Goals as goal
-
-pub draw_join-requires : goal.draw_join-requires
-draw_join-requires g c = let s = c.args.self.now in (in_terms s c.requires.by, in_terms s c.requires.right)
 
 pub returns-then-b-implication : goal.returns-then-b-implication
 returns-then-b-implication g c =

@@ -9,11 +9,6 @@ use Rattle.board.proofs.Sessions.{in_terms, rounds_none, rounds_more, rounds_all
 use Rattle.board.proofs.JoinRules.{filler_done}
 use Rattle.board.proofs.board.session.Session.draw_implication.Goals as goal
 
-pub draw_filler-requires : goal.draw_filler-requires
-draw_filler-requires g c =
-    let n = c.loop-x.invariant.drawn.kept.frame.concepts in
-    record { right = omega (arith, n, c.requires); by = omega (arith, n, c.args.self.now.ready.concepts, ap length c.concepts-x-end.ensures) }
-
 pub loop-x-init : goal.loop-x-init
 loop-x-init g c = rounds_none g.met.K.GradeKind.lawful
 

@@ -1,4 +1,4 @@
-use Rattle.std.proofs.Common.{◌≡◌, true, sym, ◌∙◌, subst, ⊎_elim}
+use Rattle.std.proofs.Common.{◌≡◌, true, sym, ◌∙◌, ⊎_elim}
 use Rattle.std.proofs.lemmas.Bool.{false≢true}
 use Rattle.terms.specs.Views.{terms_of}
 use Rattle.terms.proofs.Formed.{well_formed}
@@ -6,13 +6,10 @@ use Rattle.reasoning.specs.declared.Job.{Job}
 use Rattle.reasoning.specs.Derivations.{Within, fact_of}
 use Rattle.board.specs.Views.{board_of}
 use Rattle.board.specs.OwnDraws.{AnyBelow}
-use Rattle.board.specs.JoinDraws.{Placed, ByRole}
+use Rattle.board.specs.JoinDraws.{ByRole}
 use Rattle.board.proofs.Sessions.{session_guarded, session_then, session_none}
 use Rattle.board.proofs.JoinRules.{roles_done}
 use Rattle.board.proofs.board.session.Session.draw_join.Goals as goal
-
-pub draw_roles-requires : goal.draw_roles-requires
-draw_roles-requires g c = subst (λ t. Placed (terms_of t) c.args.partners) (sym c.draw_partners.ensures.same.terms) c.requires
 
 pub returns-then-is_below : goal.returns-then-is_below
 returns-then-is_below g c =

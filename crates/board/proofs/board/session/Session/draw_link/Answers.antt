@@ -11,13 +11,6 @@ use Rattle.board.proofs.Sessions.{in_terms, rounds_none, rounds_more, rounds_all
 use Rattle.board.proofs.JoinRules.{join_done}
 use Rattle.board.proofs.board.session.Session.draw_link.Goals as goal
 
-pub draw_join-requires : goal.draw_join-requires
-draw_join-requires g c =
-    let n = c.loop-s.invariant.drawn.kept.frame.concepts in
-    let r = c.loop-s.invariant.drawn.kept.frame.roles in
-    let a = c.loop-s.self in
-    (omega (arith, n, a.ready.concepts, c.requires.left), omega (arith, r, a.ready.roles, c.args.self.now.ready.roles), omega (arith, n, a.ready.concepts, c.requires.filler))
-
 pub loop-s-init : goal.loop-s-init
 loop-s-init g c = rounds_none g.met.K.GradeKind.lawful
 

@@ -1,19 +1,10 @@
-use Rattle.std.proofs.Common.{◌≡◌, ◌<◌, length, sym, ap, subst, arith}
+use Rattle.std.proofs.Common.{◌≡◌, ◌<◌, length, sym, ap, arith}
 use Rattle.terms.specs.Views.{terms_of}
 use Rattle.board.specs.Views.{board_of}
-use Rattle.board.specs.JoinDraws.{partner, Placed, Heads, ByPartner}
+use Rattle.board.specs.JoinDraws.{partner, ByPartner}
 use Rattle.board.proofs.Sessions.{rounds_none, rounds_more, rounds_all}
 use Rattle.board.proofs.JoinRules.{partner_within, partner_done}
 use Rattle.board.proofs.board.session.Session.draw_partners.Goals as goal
-
-pub draw_partner-requires : goal.draw_partner-requires
-draw_partner-requires g c =
-    let I = c.loop-i.invariant in
-    record {
-      placed = subst (λ t. Placed (terms_of t) c.args.partners) (sym I.same.terms) c.requires.placed;
-      heads = subst (λ t. Heads (terms_of t) c.args.head) (sym I.same.terms) c.requires.heads;
-      number = omega (arith, I.drawn.kept.frame.concepts, c.args.self.now.ready.concepts, ap length c.concepts-i-end.ensures);
-    }
 
 pub loop-i-init : goal.loop-i-init
 loop-i-init g c = rounds_none g.met.K.GradeKind.lawful

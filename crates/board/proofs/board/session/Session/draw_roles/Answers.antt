@@ -5,20 +5,12 @@ use Rattle.reasoning.specs.declared.Job.{Job}
 use Rattle.reasoning.specs.Derivations.{Within, fact_of}
 use Rattle.board.specs.declared.board.joins.Head.TheVariants.{Through}
 use Rattle.board.specs.Views.{board_of}
-use Rattle.board.specs.JoinDraws.{Placed, ByRole}
+use Rattle.board.specs.JoinDraws.{ByRole}
 use Rattle.board.specs.Sessions.{SessionDrawn}
 use Rattle.board.proofs.Sessions.{session_alike, session_moved, session_none, rounds_none, rounds_more, rounds_all}
 use Rattle.board.proofs.JoinRules.{partners_done}
 use Rattle.board.proofs.board.session.Session.draw_roles.Goals as goal
 use Rattle.board.proofs.board.session.Session.draw_roles.Goals.{then-is_below+then-is_below-2+then-is_transitive, else-is_below, else-is_below-via-then-is_below+then-is_below-2+else-is_transitive, else-is_below-via-then-is_below+else-is_below-2, else-is_below-via-else-is_below}
-
-pub draw_partners-requires : goal.draw_partners-requires
-draw_partners-requires g c =
-    let I = c.loop-t.invariant in
-    record {
-      placed = subst (λ t. Placed (terms_of t) c.args.partners) (sym I.same.terms) c.requires;
-      heads = omega (arith, I.drawn.kept.frame.roles, c.args.self.now.ready.roles, c.loop-t.self.ready.roles);
-    }
 
 pub loop-t-init : goal.loop-t-init
 loop-t-init g c = rounds_none g.met.K.GradeKind.lawful

@@ -8,9 +8,6 @@ use Rattle.board.proofs.Running.{ongoing_none, ongoing_more, ongoing_quiet, ongo
 use Rattle.board.proofs.Sessions.{same_session, same_then}
 use Rattle.board.proofs.board.session.Session.exhaust.Goals as goal
 
-pub work-requires : goal.work-requires
-work-requires g c = let O = c.loop-steps.invariant.ongoing in record { left = omega (arith, O.kept.frame.concepts, c.requires.left); held = O.held }
-
 pub loop-steps-init : goal.loop-steps-init
 loop-steps-init g c =
     let s = c.args.self.now in

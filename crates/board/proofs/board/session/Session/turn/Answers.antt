@@ -8,9 +8,6 @@ use Rattle.board.proofs.Frames.{kept_same, kept_framed, ready_kept}
 use Rattle.board.proofs.Running.{lowers, rechecks, turned}
 use Rattle.board.proofs.board.session.Session.turn.Goals as goal
 
-pub exhaust-steps-requires : goal.exhaust-steps-requires
-exhaust-steps-requires g c = record { left = c.requires.0; held = c.requires.1 }
-
 pub unreachable-requires : goal.unreachable-requires
 unreachable-requires g c =
     let b = c.exhaust-steps.new.self.board.now in
