@@ -50,7 +50,9 @@ impl<'a, K: GradeKind> OpenBoard<'a, K> {
         if P::size(pile) < self.counts.concepts {
             return Err(Rejection::SmallPile);
         }
-        let concept = pile.draw().ok_or(Rejection::EmptyPile)?;
+        let Some(concept) = pile.draw() else {
+            return Err(Rejection::EmptyPile);
+        };
         if usize::from(concept) < self.counts.concepts && self.shift(concept, Change::Take) {
             return Ok(Lease { concept });
         }

@@ -1,13 +1,9 @@
-use Rattle.std.proofs.Common.{◌≡◌, ℕ, ◌<◌, Some, None, refl, ◌∙◌, subst, arith}
-use Rattle.std.proofs.lemmas.Result.{err_from_is_err_and}
-use Rattle.rejections.specs.declared.Rejection.TheVariants.{EmptyPile}
-use Rattle.piles.specs.Sets.{Drew}
+use Rattle.std.proofs.Common.{◌≡◌, ℕ, ◌<◌, refl, ◌∙◌, arith, rules}
 use Rattle.saturation.specs.declared.State.TheVariants.{Queued}
 use Rattle.board.specs.declared.board.states.Change.TheVariants.{Take}
 use Rattle.board.specs.Views.{board_of}
 use Rattle.board.specs.Moves.{after}
 use Rattle.board.specs.Refusals.{TakeRejected}
-use Rattle.board.proofs.Options.{ok_or_some, ok_or_none}
 use Rattle.board.proofs.Frames.{framed_same}
 use Rattle.board.proofs.Shifting.{shift_no, not_queued, put_back, framed_is, sane_is}
 use Rattle.board.proofs.board.calls.OpenBoard+K.take.Goals as goal
@@ -16,25 +12,20 @@ use Rattle.board.proofs.board.calls.OpenBoard+K.take.Goals.{else-from-self-via-t
 pub returns-then-size-self-clause-taken : goal.returns-then-size-self-clause-taken
 returns-then-size-self-clause-taken g c = (TakeRejected.small_pile (omega arith), refl, λ x. refl, λ _. refl)
 
-pub returns-in_err-concept : goal.returns-in_err-concept
-returns-in_err-concept g c =
-    let numbers = g.P.Pile.numbers in
-    let N = ok_or_none c.draw.result EmptyPile c.in_err-concept.ensures.value in
-    let D : Drew (numbers c.args.pile.now) (numbers c.draw.new.self) None = subst (λ o. Drew (numbers c.args.pile.now) (numbers c.draw.new.self) o) N.0 c.draw.ensures.set in
-    let p = err_from_is_err_and c.from_residual.result c.from_residual.ensures.1 in
-    rw (p.1, p.2, N.1) (record {
-      kept = record { frame = framed_same; size = D.0 };
+pub returns-in_default : goal.returns-in_default
+returns-in_default g c =
+    record {
+      kept = record { frame = framed_same; size = search rules };
       sane = λ S. S;
-      taken = (TakeRejected.empty_pile (omega arith) D.1, refl, D.2, λ e. let z : ◌≡◌ {A = ℕ} 0 1 = cc in absurd (omega arith));
-    })
+      taken = (TakeRejected.empty_pile (omega arith) (search rules), refl, search rules, λ e. let z : ◌≡◌ {A = ℕ} 0 1 = cc in absurd (omega arith));
+    }
 
 pub returns : goal.returns
 returns g c =
     let a = c.args.self.now in
-    let x = c.in_ok-concept.concept in
+    let x = c.in-Some.concept in
     let numbers = g.P.Pile.numbers in
-    let D : Drew (numbers c.args.pile.now) (numbers c.draw.new.self) (Some x) =
-    subst (λ o. Drew (numbers c.args.pile.now) (numbers c.draw.new.self) o) (ok_or_some c.draw.result EmptyPile c.in_ok-concept.ensures.value) c.draw.ensures.set in
+    let D = c.in-Some.ensures.set in
     let B = put_back (numbers c.args.pile.now) (numbers c.draw.new.self) (numbers c.put.new.self) x c.put.result D c.put.ensures.set in
     let both : (c.else-from-self.self ≡ a) × (x < a.counts.concepts → (board_of a).state x ≡ Queued → ⊥) =
     elim c.else-from-self.branch [
