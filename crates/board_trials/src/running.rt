@@ -49,6 +49,7 @@ fn take_out<P: Pile>(pile: &mut P, gone: &[u16]) {
 }
 
 /// A run of a fresh board ends as the case says, and so does a second one.
+// For any kind, though one is tried: at `Plain` the check says "a bug in rattle leaves only a proof by hand".
 fn check_run<K: GradeKind>(rt: &impl Abort, terms: &Terms, kind: K, case: Case) {
     let Case(gone, budget, first, second) = case;
     let mut words = [0; 14];

@@ -41,7 +41,7 @@ impl Random {
     }
 
     /// Some member of the list.
-    pub fn pick<T: Copy>(&mut self, list: &[T]) -> T
+    pub(crate) fn pick<T: Copy>(&mut self, list: &[T]) -> T
         requires { 0 < length list.now }
         ensures { Contains list.now result }
     {

@@ -18,6 +18,7 @@ enum Fact {
 pub struct Table {
     pub concepts: usize,
     pub roles: usize,
+    // One list, and `place` is all that reckons in it: a map would ask for memory at every fact.
     masks: Vec<u64>,
 }
 

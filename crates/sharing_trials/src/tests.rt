@@ -40,6 +40,7 @@ fn shared<K: GradeKind>(terms: &Terms, words: &mut [u16], kind: K, workers: u16)
 
 #[test]
 fn the_number_of_workers_decides_nothing(rt: HostRuntime) -> Result<(), Fail> {
+    // By hand, since it is read once: the closure of `staging` would hold the whole test.
     let mut concepts = [Concept::Atomic; 6];
     let mut inclusions = [Inclusion::default(); 3];
     let mut terms = Terms::empty(&mut concepts, &mut inclusions);

@@ -40,6 +40,7 @@ fn exhaust<K: GradeKind, Q: Pile>(
     terms: &Terms,
     lease: &Lease,
 ) {
+    // A loop, since `any` over a range would hide that each call acts.
     for _ in 0..1000u16 {
         if board.step(terms, pile, lease).is_err() {
             break;

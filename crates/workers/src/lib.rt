@@ -44,6 +44,7 @@ pub struct Shared {
 }
 
 /// Lets two workers share a board.
+// A function of its own: in `share` the shop is "a call at a lifetime and at an intersection of lifetimes of which that one is a part".
 fn work_two<K: GradeKind, P: Pile>(board: &mut OpenBoard<K>, terms: &Terms, pile: &mut P) -> Both
     ensures { Onward (terms_of terms.now) K.GradeKind.kind P.Pile.numbers board.old pile.old board.new pile.new }
 {

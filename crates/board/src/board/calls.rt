@@ -121,6 +121,7 @@ impl<'a, K: GradeKind> OpenBoard<'a, K> {
         ensures sane { StaysSane K.GradeKind.kind self.old self.new }
         ensures rechecked { RecheckedBy (terms_of terms.now) P.Pile.numbers lowered self.old pile.old self.new pile.new result }
     {
+        // Not by `?`, since the token goes back with the rejection.
         if let Err(rejection) = self.admit(terms, pile) {
             return Err(Refused {
                 rejection,

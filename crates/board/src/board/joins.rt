@@ -133,6 +133,7 @@ impl<'w, 'a, 't, K: GradeKind, P: Pile> Session<'w, 'a, 't, K, P> {
         ensures { SessionDrawn K.GradeKind.kind P.Pile.numbers (λ v. AnyBelow v.roles (ByRole v K.GradeKind.kind (board_of self.old.board.now).done partners join)) self.old self.new }
     {
         let terms = self.terms;
+        // By `as`: with `usize::from` the goals speak of the conversion's answer, and the answers to them fail.
         for t in 0..terms.roles() {
             if terms.is_below(join.link as usize, t)
                 && terms.is_below(t, join.implication as usize)

@@ -21,6 +21,7 @@ impl<'a, K: GradeKind> OpenBoard<'a, K> {
     }
 
     /// Makes `g` the done grade of a job.
+    // One function for both would take the place of the word, and its callers owe what `spot` and `mark` say here.
     pub(crate) fn write_done(&mut self, job: Job, g: u16)
         requires { Fits self.old.counts.concepts self.old.counts.roles (fact_of job) }
         ensures frame { Framed self.old self.new }
