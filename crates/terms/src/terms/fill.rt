@@ -60,38 +60,24 @@ impl<'a> Terms<'a> {
         ensures { Added entry self.old self.new }
     {
         match entry {
-            Entry::Concept(c) => self.put_concept(c),
-            Entry::Role => self.put_role(),
+            Entry::Concept(c) => {
+                self.concepts[self.concept_count] = c;
+                self.concept_count += 1;
+            }
+            Entry::Role => {
+                self.order[self.role_count] = 1 << self.role_count;
+                self.role_count += 1;
+            }
             Entry::Order(r, s) => self.put_order(r, s),
-            Entry::Transitive(r) => self.put_transitive(r),
-            Entry::Inclusion(i) => self.put_inclusion(i),
+            Entry::Transitive(r) => self.transitive |= 1 << r,
+            Entry::Inclusion(i) => {
+                self.inclusions[self.inclusion_count] = i;
+                self.inclusion_count += 1;
+            }
         }
     }
 
-    fn put_concept(&mut self, c: Concept)
-        requires { Allowed (tally_of self.old) (Stated.Concept c) }
-        ensures { Added (Stated.Concept c) self.old self.new }
-    {
-        self.concepts[self.concept_count] = c;
-        self.concept_count += 1;
-    }
-
-    fn put_inclusion(&mut self, i: Inclusion)
-        requires { Allowed (tally_of self.old) (Stated.Inclusion i) }
-        ensures { Added (Stated.Inclusion i) self.old self.new }
-    {
-        self.inclusions[self.inclusion_count] = i;
-        self.inclusion_count += 1;
-    }
-
-    fn put_role(&mut self)
-        requires { Allowed (tally_of self.old) Stated.Role }
-        ensures { Added Stated.Role self.old self.new }
-    {
-        self.order[self.role_count] = 1 << self.role_count;
-        self.role_count += 1;
-    }
-
+    // What is below r is now below what is above s. A loop, since the goals on the new rows stayed open with `map`.
     fn put_order(&mut self, r: u16, s: u16)
         requires { Allowed (tally_of self.old) (Stated.Order r s) }
         ensures { Added (Stated.Order r s) self.old self.new }
@@ -100,13 +86,6 @@ impl<'a> Terms<'a> {
         for row in self.order.iter_mut() {
             *row = climb(*row, r, up);
         }
-    }
-
-    fn put_transitive(&mut self, r: u16)
-        requires { Allowed (tally_of self.old) (Stated.Transitive r) }
-        ensures { Added (Stated.Transitive r) self.old self.new }
-    {
-        self.transitive |= 1 << r;
     }
 }
 
