@@ -11,6 +11,7 @@ use super::Terms;
 use crate::entry::Entry;
 use crate::records::{Concept, Inclusion};
 use crate::tally::{Room, Tally};
+use crate::words::has_bit;
 
 impl<'a> Terms<'a> {
     /// The empty vocabulary over two lists, whose entries stay as they are.
@@ -91,8 +92,11 @@ impl<'a> Terms<'a> {
 
 // A row that has the role r takes the row `up` too.
 fn climb(row: u32, r: u16, up: u32) -> u32
-    requires { r < 32 }
     ensures { result ≡ climbed r up row }
 {
-    if (row >> r) % 2 == 1 { row | up } else { row }
+    if has_bit(row, usize::from(r)) {
+        row | up
+    } else {
+        row
+    }
 }
