@@ -1,6 +1,6 @@
 -- Taking what lines state, one after another.
-use Rattle.std.proofs.Common.{◌≡◌, ℕ, ◌+◌, ◌<◌, ◌≤◌, List, [], ◌∷◌, ◌++◌, length, get_or, take, drop, Ok, Err, Result, sym, refl, ap, ◌∙◌, subst, append_assoc}
-use Rattle.std.proofs.lemmas.List.{at_drop_more, at_drop_all, take_more, append-nil}
+use Rattle.std.proofs.Common.{◌≡◌, ℕ, ◌+◌, ◌<◌, List, [], ◌∷◌, ◌++◌, length, get_or, take, drop, Ok, Result, sym, refl, ap, ◌∙◌, subst, append_assoc}
+use Rattle.std.proofs.lemmas.List.{at_drop_more, take_more, append-nil}
 use Rattle.terms.specs.declared.entry.Entry.{Entry}
 use Rattle.terms.specs.declared.tally.Tally.{Tally}
 use Rattle.terms.specs.Counting.{Verdict, verdict_of, counted}
@@ -26,13 +26,6 @@ count_next k ls i t h = at_drop_more (λ xs. count_lines k xs t) ls i [] h
 pub count_on : (k : ℕ) (ls : List (List ℕ)) (i : ℕ) (t u : Tally) → i < length ls → line_step k (get_or ls i []) t ≡ Ok u
     → count_lines k (drop i ls) t ≡ count_lines (k + 1) (drop (i + 1) ls) u
 count_on k ls i t u h e = count_next k ls i t h ∙ ap (λ (r : Result Tally Fault). and_then r (λ x. count_lines (k + 1) (drop (i + 1) ls) x)) e
-
-pub count_stops : (k : ℕ) (ls : List (List ℕ)) (i : ℕ) (t : Tally) (f : Fault) → i < length ls → line_step k (get_or ls i []) t ≡ Err f
-    → count_lines k (drop i ls) t ≡ Err f
-count_stops k ls i t f h e = count_next k ls i t h ∙ ap (λ (r : Result Tally Fault). and_then r (λ x. count_lines (k + 1) (drop (i + 1) ls) x)) e
-
-pub count_all : (k : ℕ) (ls : List (List ℕ)) (i : ℕ) (t : Tally) → length ls ≤ i → count_lines k (drop i ls) t ≡ Ok t
-count_all k ls i t h = at_drop_all (λ xs. count_lines k xs t) ls i h
 
 -- ---- the entries, line by line
 

@@ -9,7 +9,8 @@ pub struct Line<'a> {
     pub feed: u8,
 }
 
-// Takes the line apart by one pattern, with a part between two elements.
+// Takes the line apart by one pattern, with a part between two elements. The columns come as a slice, since at an array of 20 the
+// checker refuses its own part of the proof of such a pattern.
 pub(crate) fn line_parts(columns: &[u8]) -> Line
     requires { length columns.now ≡ 20 }
     ensures letter { result.letter ≡ slice_index columns.now 0 }

@@ -6,3 +6,4 @@ pub mod entry;
 pub mod records;
 pub mod tally;
 pub mod terms;
+mod words;

@@ -11,11 +11,14 @@ pub mod look;
 /// `transitive` has a bit for each role.
 #[derive(Drop)]
 pub struct Terms<'a> {
+    // Each list is lent and has its count beside it: the library asks for no heap. Tried as one struct for both: a caller then no
+    // longer learns what its lists hold at the end (`c.concepts.given` in the goal), which `Terms::empty` promises.
     concepts: &'a mut [Concept],
     concept_count: usize,
     inclusions: &'a mut [Inclusion],
     inclusion_count: usize,
     role_count: usize,
+    // A row for each of the most roles there may be, 0 beyond the count: the library asks for no heap.
     order: [u32; 32],
     transitive: u32,
     ghost fits: { (concept_count ≤ length concepts.now) × (concept_count ≤ 1024) × (inclusion_count ≤ length inclusions.now) × (inclusion_count ≤ 4096) × (role_count ≤ 32) },

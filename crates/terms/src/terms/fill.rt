@@ -11,6 +11,7 @@ use super::Terms;
 use crate::entry::Entry;
 use crate::records::{Concept, Inclusion};
 use crate::tally::{Room, Tally};
+use crate::words::has_bit;
 
 impl<'a> Terms<'a> {
     /// The empty vocabulary over two lists, whose entries stay as they are.
@@ -60,38 +61,24 @@ impl<'a> Terms<'a> {
         ensures { Added entry self.old self.new }
     {
         match entry {
-            Entry::Concept(c) => self.put_concept(c),
-            Entry::Role => self.put_role(),
+            Entry::Concept(c) => {
+                self.concepts[self.concept_count] = c;
+                self.concept_count += 1;
+            }
+            Entry::Role => {
+                self.order[self.role_count] = 1 << self.role_count;
+                self.role_count += 1;
+            }
             Entry::Order(r, s) => self.put_order(r, s),
-            Entry::Transitive(r) => self.put_transitive(r),
-            Entry::Inclusion(i) => self.put_inclusion(i),
+            Entry::Transitive(r) => self.transitive |= 1 << r,
+            Entry::Inclusion(i) => {
+                self.inclusions[self.inclusion_count] = i;
+                self.inclusion_count += 1;
+            }
         }
     }
 
-    fn put_concept(&mut self, c: Concept)
-        requires { Allowed (tally_of self.old) (Stated.Concept c) }
-        ensures { Added (Stated.Concept c) self.old self.new }
-    {
-        self.concepts[self.concept_count] = c;
-        self.concept_count += 1;
-    }
-
-    fn put_inclusion(&mut self, i: Inclusion)
-        requires { Allowed (tally_of self.old) (Stated.Inclusion i) }
-        ensures { Added (Stated.Inclusion i) self.old self.new }
-    {
-        self.inclusions[self.inclusion_count] = i;
-        self.inclusion_count += 1;
-    }
-
-    fn put_role(&mut self)
-        requires { Allowed (tally_of self.old) Stated.Role }
-        ensures { Added Stated.Role self.old self.new }
-    {
-        self.order[self.role_count] = 1 << self.role_count;
-        self.role_count += 1;
-    }
-
+    // What is below r is now below what is above s. A loop, since the goals on the new rows stayed open with `map`.
     fn put_order(&mut self, r: u16, s: u16)
         requires { Allowed (tally_of self.old) (Stated.Order r s) }
         ensures { Added (Stated.Order r s) self.old self.new }
@@ -101,19 +88,15 @@ impl<'a> Terms<'a> {
             *row = climb(*row, r, up);
         }
     }
-
-    fn put_transitive(&mut self, r: u16)
-        requires { Allowed (tally_of self.old) (Stated.Transitive r) }
-        ensures { Added (Stated.Transitive r) self.old self.new }
-    {
-        self.transitive |= 1 << r;
-    }
 }
 
 // A row that has the role r takes the row `up` too.
 fn climb(row: u32, r: u16, up: u32) -> u32
-    requires { r < 32 }
     ensures { result ≡ climbed r up row }
 {
-    if (row >> r) % 2 == 1 { row | up } else { row }
+    if has_bit(row, usize::from(r)) {
+        row | up
+    } else {
+        row
+    }
 }

@@ -5,6 +5,7 @@ ghost use Rattle.terms.specs.Vocabularies.{is_named};
 
 use super::Terms;
 use crate::records::{Concept, Inclusion};
+use crate::words::has_bit;
 
 impl<'a> Terms<'a> {
     /// The concepts, by their numbers.
@@ -34,14 +35,14 @@ impl<'a> Terms<'a> {
     pub fn is_below(&self, r: usize, s: usize) -> bool
         ensures { result ≡ (terms_of self.now).below r s }
     {
-        r < 32 && s < 32 && (self.order[r] >> s) % 2 == 1
+        self.order.get(r).is_some_and(|row| has_bit(*row, s))
     }
 
     /// Whether the role is transitive; false for a number that is no role.
     pub fn is_transitive(&self, r: usize) -> bool
         ensures { result ≡ (terms_of self.now).transitive r }
     {
-        r < 32 && (self.transitive >> r) % 2 == 1
+        has_bit(self.transitive, r)
     }
 
     /// Whether the number is that of a named concept: one that counts in start facts, listings and questions.

@@ -1,10 +1,6 @@
-use Rattle.std.proofs.Common.{◌≡◌, ◌+◌, ◌-◌, decimal, refl, subst, arith}
-use Rattle.std.proofs.lemmas.List.{append-nil}
+use Rattle.std.proofs.Common.{◌≡◌, ◌+◌, ◌-◌, subst, arith}
 use Rattle.sheet.proofs.Spaced.{Digits, digit_more, digit_last}
 use Rattle.sheet.proofs.columns.columns.Goals as goal
-
-pub loop-place-init : goal.loop-place-init
-loop-place-init c = record { fits = omega arith; left = omega arith; long = refl; front = refl; back = append-nil (decimal c.args.n) }
 
 pub loop-place-preserved : goal.loop-place-preserved
 loop-place-preserved c =
@@ -13,9 +9,6 @@ loop-place-preserved c =
     let xs = c.loop-place.bytes in
     let q : k ≡ k - 1 + 1 = omega arith in
     digit_more c.args.n (k - 1) m xs (omega arith) (omega arith) (omega arith) (subst (λ j. Digits c.args.n j m xs) q c.loop-place.invariant)
-
-pub returns-after-loop-place : goal.returns-after-loop-place
-returns-after-loop-place c = absurd (omega (arith, c.loop-place.invariant.left))
 
 pub returns-then-rest-eq0 : goal.returns-then-rest-eq0
 returns-then-rest-eq0 c =

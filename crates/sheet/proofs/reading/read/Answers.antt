@@ -1,10 +1,9 @@
-use Rattle.std.proofs.Common.{◌≡◌, ℕ, ◌/◌, List, length, Ok, Err, Result, sym, refl, ap, ◌∙◌, subst, arith}
+use Rattle.std.proofs.Common.{◌≡◌, ℕ, ◌/◌, List, length, Ok, Err, Result, sym, ap, ◌∙◌, subst}
 use Rattle.terms.specs.declared.tally.Room.{Room}
 use Rattle.terms.specs.declared.tally.Tally.{Tally}
 use Rattle.terms.specs.Contents.{vocabulary_of}
 use Rattle.terms.specs.Counting.{none_of}
 use Rattle.terms.specs.Lent.{room_of, Added}
-use Rattle.terms.proofs.Filling.{cleared_counts}
 use Rattle.sheet.specs.declared.fault.Fault.{Fault}
 use Rattle.sheet.specs.Sheet.{lines_in, count_lines, sheet_of, entries_of, Took}
 use Rattle.sheet.proofs.Exits.{broke, cases_of_err}
@@ -22,39 +21,27 @@ counted_by : (text : List ℕ) (ls : List (List ℕ)) (t : Tally) (m : Room) (r 
     → count_lines 1 (lines_in text) (none_of m) ≡ r
 counted_by text ls t m r p q e = ap (λ xs. count_lines 1 xs (none_of m)) (sym p) ∙ ap (count_lines 1 ls) (sym q) ∙ e
 
-pub returns-in_err-lines : goal.returns-in_err-lines
-returns-in_err-lines c =
+pub returns-in_err-lines-clause-law : goal.returns-in_err-lines-clause-law
+returns-in_err-lines-clause-law c =
     let text = c.args.text.now in
     let m = room_of c.args.terms.now in
     let f = c.in_err-lines.field-0.0 in
     let h = c.in_err-lines.ensures in
     let e : c.from_residual.result ≡ Err f = broke c.from_residual.result f c.from_residual.ensures.1 in
     let s : sheet_of m text ≡ Err f = sheet_cut m text h.0 ∙ ap {A = Fault} {B = Result ℕ Fault} Err (sym h.1) in
-    record { result = e ∙ sym s; terms = cases_of_err _ _ e refl; law = cases_of_err _ _ e (refuses m text f s) }
+    cases_of_err _ _ e (refuses m text f s)
 
-pub returns-in_err-take_lines : goal.returns-in_err-take_lines
-returns-in_err-take_lines c =
+pub returns-in_err-take_lines-clause-law : goal.returns-in_err-take_lines-clause-law
+returns-in_err-take_lines-clause-law c =
     let text = c.args.text.now in
     let m = room_of c.args.terms.now in
     let f = c.in_err-take_lines.field-0.0 in
     let h = c.in_ok-lines.ensures in
     let e : c.from_residual-in_err-take_lines.result ≡ Err f = broke c.from_residual-in_err-take_lines.result f c.from_residual-in_err-take_lines.ensures.1 in
     let k : count_lines 1 (lines_in text) (none_of m) ≡ Err f =
-    counted_by text c.in_ok-lines.lines.now c.none-tally.result m (Err f) h.1 (begun (goal.at.returns-in_err-take_lines c).After-none-tally) c.in_err-take_lines.ensures in
+    counted_by text c.in_ok-lines.lines.now c.none-tally.result m (Err f) h.1 (begun (goal.at.returns-in_err-take_lines-clause-law c).After-none-tally) c.in_err-take_lines.ensures in
     let s : sheet_of m text ≡ Err f = sheet_err m text h.0 f k in
-    record { result = e ∙ sym s; terms = cases_of_err _ _ e refl; law = cases_of_err _ _ e (refuses m text f s) }
-
--- lines that were counted without a fault have none for the cleared terms
-pub returns-in_err-take_lines-2 : goal.returns-in_err-take_lines-2
-returns-in_err-take_lines-2 c =
-    let t = c.args.terms.now in
-    let ls = c.in_ok-lines.lines.now in
-    let good : count_lines 1 ls (none_of (room_of t)) ≡ Ok c.take_lines.new.into =
-    ap (count_lines 1 ls) (sym (begun (goal.at.returns-in_err-take_lines-2 c).After-none-tally)) ∙ c.in_ok-take_lines.ensures.counts_on in
-    let bad : count_lines 1 ls (none_of (room_of t)) ≡ Err c.in_err-take_lines-2.field-0.0 =
-    ap (count_lines 1 ls) (sym (cleared_counts t c.clear.new.self c.clear.ensures.contents c.clear.ensures.lists)) ∙ c.in_err-take_lines-2.ensures in
-    let z : ◌≡◌ {A = ℕ} 0 1 = cc in
-    absurd (omega arith)
+    cases_of_err _ _ e (refuses m text f s)
 
 pub returns : goal.returns
 returns c =

@@ -1,6 +1,11 @@
-use Rattle.std.proofs.Common.{arith}
-use Rattle.terms.proofs.Bits.{none_below, told, zero_bit}
+use Rattle.terms.proofs.Bits.{none_chains, none_on, none_flagged}
 use Rattle.terms.proofs.terms.Terms.empty.Goals as goal
 
-pub invariant_of-result : goal.invariant_of-result
-invariant_of-result c = record { fits = (omega arith, omega arith, omega arith, omega arith, omega arith); earlier = (λ k h. absurd (omega arith)); named = (λ k h. absurd (omega arith)); reflexive = (λ a h. absurd (omega arith)); chains = (λ t x y. absurd (none_below t.0 t.1 x)); on_roles = (λ a b e. absurd (none_below a b e)); flagged = (λ a e. absurd (zero_bit a (told 0 a e))) }
+pub invariant_of-result-clause-chains : goal.invariant_of-result-clause-chains
+invariant_of-result-clause-chains c = none_chains
+
+pub invariant_of-result-clause-on_roles : goal.invariant_of-result-clause-on_roles
+invariant_of-result-clause-on_roles c = none_on 0
+
+pub invariant_of-result-clause-flagged : goal.invariant_of-result-clause-flagged
+invariant_of-result-clause-flagged c = none_flagged 0
