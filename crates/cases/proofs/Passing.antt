@@ -27,7 +27,7 @@ use Rattle.sheet.specs.declared.fault.Fault.{Fault}
 use Rattle.cases.specs.Rounds.{has, closed, rounds}
 use Rattle.cases.specs.Sheets.{reading, stated}
 use Rattle.cases.specs.Expectations.{kind_of, Expectation, grade, listing, steps, mates, parents, words, unknown, Grade, Listing, Met}
-use Rattle.cases.specs.Cases.{Case, Holds, cases, WorkedCasesHold, further_cases, FurtherCasesHold}
+use Rattle.cases.specs.Cases.{Case, Holds, cases, WorkedCasesHold}
 use Rattle.cases.proofs.Rounds.{rounds_derive, rounds_tell}
 use Rattle.cases.proofs.Tests.{all_of, all_at, all_of_lem, agree, agree_true}
 use Rattle.cases.proofs.Formed.{formed, formed_well}
@@ -230,9 +230,3 @@ none_fails = refl
 
 pub worked_cases_hold : WorkedCasesHold
 worked_cases_hold c m = passed c (passing 0 cases none_fails c m)
-
-none_further_fails : failing 0 further_cases ≡ []
-none_further_fails = refl
-
-pub further_cases_hold : FurtherCasesHold
-further_cases_hold c m = passed c (passing 0 further_cases none_further_fails c m)

@@ -49,21 +49,12 @@ cases =
     ∷ given Plain ("A" ∷ "A" ∷ "A" ∷ "N     1     2" ∷ "T" ∷ "S     0     3     1" ∷ []) (listing ((0, 1, 1) ∷ (0, 2, 1) ∷ []) ∷ grade 1 4 1 ∷ [])
     -- what lies between keeps a concept from being a parent
     ∷ given Plain ("A" ∷ "A" ∷ "A" ∷ "S     0     1     1" ∷ "S     1     2     1" ∷ []) (parents 0 0 (1 ∷ []) ∷ mates 0 0 [] ∷ [])
+    -- the empty sheet: its board needs no words, nothing is listed, and there is no concept 0 to ask for
+    ∷ given Releases [] (words 0 ∷ listing [] ∷ unknown 0 ∷ [])
+    -- a concept lies inside its conjunction with itself, in all views
+    ∷ given Views ("A" ∷ "N     0     0" ∷ []) (grade 0 1 65535 ∷ [])
     ∷ []
 
 -- every case holds
 abbrev pub WorkedCasesHold : Type 0
 WorkedCasesHold = (c : Case) → Memᴰ c cases → Holds c
-
--- further cases
-abbrev pub further_cases : List Case
-further_cases =
-    -- the empty sheet: its board needs no words, nothing is listed, and there is no concept 0 to ask for
-    given Releases [] (words 0 ∷ listing [] ∷ unknown 0 ∷ [])
-    -- a concept lies inside its conjunction with itself, in all views
-    ∷ given Views ("A" ∷ "N     0     0" ∷ []) (grade 0 1 65535 ∷ [])
-    ∷ []
-
--- every further case holds
-abbrev pub FurtherCasesHold : Type 0
-FurtherCasesHold = (c : Case) → Memᴰ c further_cases → Holds c

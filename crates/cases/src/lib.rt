@@ -3,7 +3,7 @@
 //! theorem in its contract.
 #![tactic(auto)]
 
-ghost use Rattle.cases.specs.Cases.{FurtherCasesHold, WorkedCasesHold};
+ghost use Rattle.cases.specs.Cases.{WorkedCasesHold};
 ghost use Rattle.cases.specs.Expectations.{BoardsAnswer};
 ghost use Rattle.cases.specs.Rounds.{ConclusionsDrawn, RoundsDerive, RoundsTell};
 
@@ -30,9 +30,4 @@ pub fn finished_boards_answer_as_expected()
 /// Every case of the table meets what it expects.
 pub fn worked_cases_hold()
     ensures { WorkedCasesHold }
-{}
-
-/// Every further case of the second table meets what it expects.
-pub fn further_cases_hold()
-    ensures { FurtherCasesHold }
 {}
