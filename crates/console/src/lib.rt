@@ -18,6 +18,7 @@ fn fill<'b, R: Read>(input: &mut R, buffer: &'b mut [u8]) -> io::Result<&'b [u8]
     ensures bytes { IfOk result (λ text. Consumes (R.remaining input.old) (R.remaining input.new) text.now) }
     ensures end { IfOk result (λ text. length text.now < length buffer.old → IsAtEnd (R.remaining input.new)) }
 {
+    // By hand: `read_to_end` asks for a heap, and `read_exact` refuses a shorter input.
     let mut filled = 0;
     while filled < buffer.len() {
         let got = input.read(&mut buffer[filled..])?;

@@ -13,6 +13,7 @@ pub struct Row {
 }
 
 /// A page, of which the first `filled` bytes are written.
+// Lent, with its count beside it, since the library asks for no heap.
 #[derive(Drop)]
 pub(crate) struct Page<'p> {
     bytes: &'p mut [u8],

@@ -43,6 +43,7 @@ fn short(n: usize) -> u16
 
 impl Trouble {
     /// The line that says it: `!` and the number, the line and the column in six columns each. Outside reading, line and column are 0.
+    // Bytes and no `Display`: a listing and its trouble are written as they are specified, column by column.
     pub fn line(self) -> [u8; 20]
         ensures { result ≡ trouble_bytes self }
     {

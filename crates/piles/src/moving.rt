@@ -8,6 +8,7 @@ use crate::pile::Pile;
 pub fn move_all<P: Pile, Q: Pile>(a: &mut P, b: &mut Q) -> usize
     ensures { Moved (P.Pile.numbers a.old) (Q.Pile.numbers b.old) (P.Pile.numbers a.new) (Q.Pile.numbers b.new) result }
 {
+    // Counted by hand: a `count` over draws would act on both piles inside an iterator.
     let mut refused = 0;
     while let Some(x) = a.draw() {
         if b.put(x).is_err() {

@@ -14,6 +14,7 @@ use terms::entry::Entry;
 use terms::records::{Concept, Inclusion};
 
 /// The numbers of a line, 0 where a field is blank.
+// 0 and no `Option`: the sort of line says which fields have numbers, and no other is read.
 #[derive(Clone, Copy)]
 pub(crate) struct Numbers {
     first: u16,
@@ -69,7 +70,7 @@ fn wanted(columns: &[u8], number: bool) -> Result<u16, FieldFault>
     }
 }
 
-// The three fields, of which the first `count` have a number.
+// The three fields, of which the first `count` have a number. Three lines, as an array of results would need a loop and its proof to say the same.
 fn read_numbers(fields: &[u8], count: u8) -> Result<Numbers, LineFault>
     requires { length fields.now ≡ 18 }
     ensures { result ≡ numbers_of count fields.now }
