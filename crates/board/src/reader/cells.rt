@@ -12,8 +12,7 @@ pub(crate) fn fact_of(job: Job) -> Fact
     ensures { result ≡ fact_of job }
 {
     match job {
-        Job::Own(c, d) => Fact::Under(c, d),
-        Job::Link(c, d) => Fact::Under(c, d),
+        Job::Own(c, d) | Job::Link(c, d) => Fact::Under(c, d),
         Job::Imply(s, c, e) => Fact::Implies(s, c, e),
     }
 }
