@@ -23,7 +23,7 @@ impl<'a, K: GradeKind> OpenBoard<'a, K> {
     pub(crate) fn admit<P: Pile>(&self, terms: &Terms, pile: &P) -> Result<(), Rejection>
         ensures { MatchResult result (λ _. Ready (terms_of terms.now) P.Pile.numbers self.now pile.now) (Unready (terms_of terms.now) self.now.counts.concepts self.now.counts.roles (P.Pile.numbers pile.now).size) }
     {
-        if self.counts.concepts != terms.concepts().len() || self.counts.roles != terms.roles() {
+        if !self.counts.go_with(terms) {
             return Err(Rejection::OtherTerms);
         }
         if pile.size() < self.counts.concepts {
