@@ -28,6 +28,7 @@ impl<'b> Reader<'b> {
     }
 
     /// The done grade of a job.
+    // Beside `found`: one function for both would take the place of the word, and its callers would owe what `spot` and `mark` say.
     pub(crate) fn done(&self, job: Job) -> u16
         requires { Fits self.now.counts.concepts self.now.counts.roles (fact_of job) }
         ensures { result ≡ (read_of self.now).done job }
