@@ -1,6 +1,7 @@
 -- Steps one after another at a concept, and turns one after another.
-use Rattle.std.proofs.Common.{◌≡◌, ℕ, ◌+◌, ◌-◌, ◌*◌, ◌<◌, ◌≤◌, Bool, false, cond, List, [], ◌∷◌, ◌++◌, length, sym, refl, ap, ◌∙◌, subst, subst₂, inl, inr, ⊎_elim, arith}
+use Rattle.std.proofs.Common.{◌≡◌, ℕ, ◌+◌, ◌-◌, ◌*◌, ◌<◌, ◌≤◌, Bool, false, cond, List, [], ◌∷◌, ◌++◌, length, Ok, Err, Result, sym, refl, ap, ◌∙◌, subst, subst₂, inl, inr, ⊎_elim, arith}
 use Rattle.std.proofs.lemmas.Bool.{cases_eq, eq-eqb, ne_eqb}
+use Rattle.std.specs.Result.{IsOk}
 use Rattle.rejections.specs.declared.Rejection.{Rejection}
 use Rattle.grades.specs.Kinds.{Kind, Lawful}
 use Rattle.piles.specs.Sets.{Numbers, tally, count_of, without}
@@ -18,12 +19,15 @@ use Rattle.saturation.specs.Runs.{Exhausts, Runs, NothingToTake}
 use Rattle.reasoning.proofs.Jobs.{at_within}
 use Rattle.saturation.proofs.Places.{idle≢held}
 use Rattle.board.specs.Stages.{OpenBoard}
+use Rattle.board.specs.declared.tokens.Lease.{Lease}
+use Rattle.board.specs.declared.tokens.LoweredLease.{LoweredLease}
+use Rattle.board.specs.declared.tokens.Refused.{Refused}
 use Rattle.board.specs.Views.{board_of, moment_of}
 use Rattle.board.specs.Frames.{Framed, Kept}
 use Rattle.board.specs.Raises.{Ready}
 use Rattle.board.specs.Deeds.{Did}
 use Rattle.board.specs.Refusals.{SameCounts, IsHeld, Unready, TakeRejected, LowerRejected, RecheckRejected}
-use Rattle.board.specs.Calls.{StaysSane}
+use Rattle.board.specs.Calls.{StaysSane, LoweredBy, RecheckedBy}
 use Rattle.board.specs.Running.{Ongoing, Exhausted, Turned, Rolling}
 use Rattle.board.proofs.Frames.{kept_same, kept_then, kept_framed, ready_kept}
 use Rattle.board.proofs.AsStated.{as_stated, still_sane}
@@ -103,6 +107,17 @@ unready v n m size (Unready.small_pile _ small) s l = omega arith
 pub rechecks : (v : Vocabulary) (n m size c : ℕ) {e : Rejection} → RecheckRejected v n m size c e → SameCounts v n m → n ≤ size → c < n → ⊥
 rechecks v n m size c (RecheckRejected.unready u) s l h = unready v n m size u s l
 rechecks v n m size c (RecheckRejected.unfit_lease _ _ no-lease) s l h = omega arith
+
+-- a lowering of a lease of a held concept answers a lowered lease
+pub lowered_ok : {X : Type 0} (lease : Lease) (a b : OpenBoard X) (r : Result LoweredLease (Refused Lease)) → LoweredBy lease a b r → IsHeld a.counts.concepts (board_of a) lease.concept → IsOk r
+lowered_ok lease a b (Ok t) l h = refl
+lowered_ok lease a b (Err r) l h = absurd (lowers a.counts.concepts (board_of a) lease.concept l.0 h)
+
+-- a recheck of a lowered lease of a concept of the board is not rejected
+pub rechecked_ok : {X Y : Type 0} (v : Vocabulary) (numbers : Y → Numbers) (low : LoweredLease) (a : OpenBoard X) (p : Y) (b : OpenBoard X) (q : Y) (r : Result (Unit {0}) (Refused LoweredLease)) →
+    RecheckedBy v numbers low a p b q r → Ready v numbers a p → low.concept < a.counts.concepts → IsOk r
+rechecked_ok v numbers low a p b q (Ok t) l ready h = refl
+rechecked_ok v numbers low a p b q (Err r) l ready h = absurd (rechecks v a.counts.concepts a.counts.roles (numbers p).size low.concept l.0 (ready.concepts, ready.roles) ready.wide h)
 
 module _ {X Y : Type 0} (v : Vocabulary) (k : Kind) (numbers : Y → Numbers) (c budget steps : ℕ) (a : OpenBoard X) (p : Y) (b : OpenBoard X) (q : Y) (R : Ready v numbers a p)
     (E : Exhausted v k numbers c budget steps a p b q) (d : OpenBoard X) (F : Framed b d)

@@ -28,6 +28,7 @@ pub struct Closed;
 /// `words`, which the caller lends.
 #[derive(Drop)]
 pub struct Board<'a, K, S> {
+    // One lent list, and `Counts` says where each grade lies: the library asks for no heap.
     words: &'a mut [u16],
     pub(crate) counts: Counts,
     steps: u64,

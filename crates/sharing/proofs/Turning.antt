@@ -1,7 +1,6 @@
 -- How the calls of workers lead on, one after another.
-use Rattle.std.proofs.Common.{◌≡◌, ℕ, ◌<◌, Bool, true, false, cond, eqb, List, [], ◌∷◌, ◌++◌, length, Ok, Err, Result, sym, refl, ap, ◌∙◌, subst, subst₂, inl, inr, arith}
+use Rattle.std.proofs.Common.{◌≡◌, ℕ, Bool, true, false, cond, eqb, List, [], ◌∷◌, ◌++◌, length, Ok, Err, Result, sym, refl, ap, ◌∙◌, subst, subst₂, inl, inr, arith}
 use Rattle.std.proofs.lemmas.Bool.{cases_eq, eq-eqb, ne_eqb}
-use Rattle.std.specs.Result.{IsOk}
 use Rattle.rejections.specs.declared.Rejection.{Rejection}
 use Rattle.grades.specs.Kinds.{Kind}
 use Rattle.piles.specs.Sets.{Numbers}
@@ -14,15 +13,11 @@ use Rattle.saturation.proofs.Places.{idle≢held, held≢queued}
 use Rattle.saturation.proofs.Finish.{join_leads, granted_of, given_back_of}
 use Rattle.board.specs.Stages.{OpenBoard}
 use Rattle.board.specs.declared.tokens.Lease.{Lease}
-use Rattle.board.specs.declared.tokens.LoweredLease.{LoweredLease}
-use Rattle.board.specs.declared.tokens.Refused.{Refused}
 use Rattle.board.specs.Views.{board_of, moment_of}
 use Rattle.board.specs.Frames.{Framed, Kept}
 use Rattle.board.specs.Raises.{Ready}
-use Rattle.board.specs.Refusals.{IsHeld}
-use Rattle.board.specs.Calls.{StaysSane, Taken, Stepped, LoweredBy, RecheckedBy}
+use Rattle.board.specs.Calls.{StaysSane, Taken, Stepped}
 use Rattle.board.proofs.Frames.{kept_same, kept_then, kept_framed, ready_kept}
-use Rattle.board.proofs.Running.{lowers, rechecks}
 use Rattle.sharing.specs.Sharing.{Workable, LedBy, GaveBack, TookTurns}
 
 -- what two lists of events both looked at, one after the other
@@ -41,17 +36,6 @@ looked_both x (rechecked c ∷ es) fs h i = go (eqb x c) h (λ e. looked_both x 
     go : (b : Bool) → cond b false (unrechecked x es) ≡ false → (unrechecked x es ≡ false → unrechecked x (es ++ fs) ≡ false) → cond b false (unrechecked x (es ++ fs)) ≡ false
     go true e f = e
     go false e f = f e
-
--- a lease of a held concept is lowered
-pub lowered_ok : {X : Type 0} (lease : Lease) (a b : OpenBoard X) (r : Result LoweredLease (Refused Lease)) → LoweredBy lease a b r → IsHeld a.counts.concepts (board_of a) lease.concept → IsOk r
-lowered_ok lease a b (Ok t) l h = refl
-lowered_ok lease a b (Err r) l h = absurd (lowers a.counts.concepts (board_of a) lease.concept l.0 h)
-
--- a lowered lease of a concept of the board is rechecked
-pub rechecked_ok : {X Y : Type 0} (v : Vocabulary) (numbers : Y → Numbers) (low : LoweredLease) (a : OpenBoard X) (p : Y) (b : OpenBoard X) (q : Y) (r : Result (Unit {0}) (Refused LoweredLease)) →
-    RecheckedBy v numbers low a p b q r → Ready v numbers a p → low.concept < a.counts.concepts → IsOk r
-rechecked_ok v numbers low a p b q (Ok t) l ready h = refl
-rechecked_ok v numbers low a p b q (Err r) l ready h = absurd (rechecks v a.counts.concepts a.counts.roles (numbers p).size low.concept l.0 (ready.concepts, ready.roles) ready.wide h)
 
 module _ {X Y : Type 0} (v : Vocabulary) (k : Kind) (numbers : Y → Numbers) where
   -- the board's own counts, in the vocabulary's words

@@ -1,4 +1,5 @@
 //! Taking, stepping, lowering and rechecking: how workers share a board.
+// `sane` stands in each call, since a board has no bound on its kind, which an invariant over the kind would need.
 ghost use Rattle.std.specs.Prelude.{◌≡◌, ◌<◌, ◌≤◌, true, false, length, MatchResult};
 ghost use Rattle.terms.specs.Views.{terms_of};
 ghost use Rattle.saturation.specs.Effects.{Rechecked};
@@ -23,7 +24,7 @@ impl<'a, K: GradeKind> OpenBoard<'a, K> {
     pub(crate) fn admit<P: Pile>(&self, terms: &Terms, pile: &P) -> Result<(), Rejection>
         ensures { MatchResult result (λ _. Ready (terms_of terms.now) P.Pile.numbers self.now pile.now) (Unready (terms_of terms.now) self.now.counts.concepts self.now.counts.roles (P.Pile.numbers pile.now).size) }
     {
-        if self.counts.concepts != terms.concepts().len() || self.counts.roles != terms.roles() {
+        if !self.counts.go_with(terms) {
             return Err(Rejection::OtherTerms);
         }
         if pile.size() < self.counts.concepts {
@@ -42,6 +43,7 @@ impl<'a, K: GradeKind> OpenBoard<'a, K> {
     }
 
     /// Draws a queued concept from the pile and makes it held. The lease names it.
+    // By `let .. else`, which is as plain as `ok_or(..)?`.
     pub fn take<P: Pile>(&mut self, pile: &mut P) -> Result<Lease, Rejection>
         ensures kept { Kept P.Pile.numbers self.old pile.old self.new pile.new }
         ensures sane { StaysSane K.GradeKind.kind self.old self.new }
@@ -99,6 +101,7 @@ impl<'a, K: GradeKind> OpenBoard<'a, K> {
     }
 
     /// Queues `c` if it is idle and a job waits there.
+    // Outside a session, since `recheck` hands over parts of other lifetimes.
     fn review<P: Pile>(&mut self, terms: &Terms, pile: &mut P, c: u16)
         requires ready { Ready (terms_of terms.now) P.Pile.numbers self.old pile.old }
         requires left { c < length (terms_of terms.now).concepts }

@@ -122,6 +122,7 @@ impl<'w, 'a, 't, K: GradeKind, P: Pile> Session<'w, 'a, 't, K, P> {
         requires heads { Heads (terms_of self.old.terms.now) head }
         ensures { SessionDrawn K.GradeKind.kind P.Pile.numbers (λ v. ByPartners v K.GradeKind.kind (board_of self.old.board.now).done partners head grade) self.old self.new }
     {
+        // By number, as the concepts of `draw_concepts`.
         for i in 0..self.terms.concepts().len() {
             self.draw_partner(partners, head, grade, i as u16);
         }
@@ -212,6 +213,7 @@ impl<'w, 'a, 't, K: GradeKind, P: Pile> Session<'w, 'a, 't, K, P> {
         requires { implication.right < self.old.board.now.counts.concepts }
         ensures { SessionDrawn K.GradeKind.kind P.Pile.numbers (λ v. ByImplication v K.GradeKind.kind (board_of self.old.board.now).done implication) self.old self.new }
     {
+        // By number, as the concepts of `draw_concepts`.
         for x in 0..self.terms.concepts().len() {
             self.draw_filler(implication, x as u16);
         }

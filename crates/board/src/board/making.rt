@@ -19,6 +19,7 @@ use std::marker::PhantomData;
 use terms::terms::Terms;
 
 /// Writes `g` to the words from `low` up to `high`.
+// A function of its own, since `Filled` says once, for both uses, what the slice's `fill` leaves.
 fn fill(words: &mut [u16], low: usize, high: usize, g: u16)
     requires { (low ≤ high) × (high ≤ length words.old) }
     ensures { Filled low high g words.old words.new }

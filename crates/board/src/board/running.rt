@@ -49,19 +49,15 @@ impl<'w, 'a, 't, K: GradeKind, P: Pile> Session<'w, 'a, 't, K, P> {
         ensures turned { Turned (terms_of self.old.terms.now) K.GradeKind.kind P.Pile.numbers lease.concept budget result self.old.board.now self.old.pile.now self.new.board.now self.new.pile.now }
     {
         let steps = self.exhaust(lease.concept, budget);
-        // A `let .. else` is refused here: it would let the refused token go, and tokens are not `Drop`.
-        match self.board.lower(lease) {
-            Err(_) => unreachable(),
-            Ok(lowered) => match self.board.recheck(self.terms, self.pile, lowered) {
-                Err(_) => unreachable(),
-                Ok(()) => steps,
-            },
-        }
+        let lowered = self.board.lower(lease).unwrap();
+        self.board.recheck(self.terms, self.pile, lowered).unwrap();
+        steps
     }
 }
 
 impl<'a, K: GradeKind> OpenBoard<'a, K> {
     /// Steps at the lease's concept, lowers the lease and rechecks, and says how many steps that took.
+    // A door into a session: see `Session`.
     fn turn<'w, P: Pile>(
         &'w mut self,
         terms: &'w Terms,

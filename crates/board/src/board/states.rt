@@ -12,6 +12,7 @@ use piles::pile::Pile;
 use saturation::State;
 
 /// What a call does to the state of a concept.
+// An enum and no closure, since the contracts name it.
 #[derive(Clone, Copy)]
 pub(crate) enum Change {
     /// Its number is drawn from the pile.

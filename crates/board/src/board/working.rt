@@ -70,6 +70,7 @@ impl<'w, 'a, 't, K: GradeKind, P: Pile> Session<'w, 'a, 't, K, P> {
 
 impl<'a, K: GradeKind> OpenBoard<'a, K> {
     /// Does the first job that waits at `c`, which is held.
+    // A door into a session: see `Session`.
     pub(crate) fn work<'w, P: Pile>(
         &'w mut self,
         terms: &'w Terms,

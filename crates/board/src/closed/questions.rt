@@ -19,7 +19,7 @@ impl<'a, K: GradeKind> ClosedBoard<'a, K> {
     fn settled(&self, terms: &Terms) -> Result<(), Rejection>
         ensures { SettledOr (terms_of terms.now) self.now.counts.concepts self.now.counts.roles (closed_of self.now) result }
     {
-        if terms.concepts().len() != self.counts.concepts || terms.roles() != self.counts.roles {
+        if !self.counts.go_with(terms) {
             return Err(Rejection::OtherTerms);
         }
         if self.reader().any_waits(terms) {
@@ -34,7 +34,7 @@ impl<'a, K: GradeKind> ClosedBoard<'a, K> {
         ensures truth { IfOk result (UnderTruth (terms_of terms.now) K.GradeKind.kind (closed_of self.now) a d) }
     {
         self.settled(terms)?;
-        if !terms.is_named(a) || d as usize >= self.counts.concepts {
+        if !terms.is_named(a) || usize::from(d) >= self.counts.concepts {
             return Err(Rejection::NoSuchConcept);
         }
         Ok(self.reader().found(Fact::Under(a, d)))

@@ -1,9 +1,10 @@
 //! How many words the counts ask for, and where each grade lies.
-ghost use Rattle.std.specs.Prelude.{◌≡◌, ◌+◌, ◌*◌, ◌<◌, ◌≤◌, length};
+ghost use Rattle.std.specs.Prelude.{◌≡◌, ◌+◌, ◌*◌, ◌<◌, ◌≤◌, true, false, length};
 ghost use Rattle.terms.specs.Views.{terms_of};
 ghost use Rattle.reasoning.specs.Derivations.{Fits, fact_of};
 ghost use Rattle.board.specs.Layout.{place, room};
 ghost use Rattle.board.specs.Views.{spot, mark};
+ghost use Rattle.board.specs.Refusals.{SameCounts};
 
 use super::Counts;
 use reasoning::{Fact, Job};
@@ -19,6 +20,14 @@ impl Counts {
             concepts: terms.concepts().len(),
             roles: terms.roles(),
         }
+    }
+
+    /// Whether these are the counts of the terms.
+    pub(crate) fn go_with(self, terms: &Terms) -> bool
+        ensures same { result ≡ true → SameCounts (terms_of terms.now) self.concepts self.roles }
+        ensures other { result ≡ false → SameCounts (terms_of terms.now) self.concepts self.roles → ⊥ }
+    {
+        self.concepts == terms.concepts().len() && self.roles == terms.roles()
     }
 
     /// How many words a board needs.

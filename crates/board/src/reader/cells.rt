@@ -12,8 +12,7 @@ pub(crate) fn fact_of(job: Job) -> Fact
     ensures { result ≡ fact_of job }
 {
     match job {
-        Job::Own(c, d) => Fact::Under(c, d),
-        Job::Link(c, d) => Fact::Under(c, d),
+        Job::Own(c, d) | Job::Link(c, d) => Fact::Under(c, d),
         Job::Imply(s, c, e) => Fact::Implies(s, c, e),
     }
 }
@@ -29,6 +28,7 @@ impl<'b> Reader<'b> {
     }
 
     /// The done grade of a job.
+    // Beside `found`: one function for both would take the place of the word, and its callers would owe what `spot` and `mark` say.
     pub(crate) fn done(&self, job: Job) -> u16
         requires { Fits self.now.counts.concepts self.now.counts.roles (fact_of job) }
         ensures { result ≡ (read_of self.now).done job }

@@ -23,6 +23,7 @@ struct Link {
 }
 
 /// Jobs that go by the numbers of concepts.
+// An enum and no closure, since the contracts name it.
 #[derive(Clone, Copy)]
 pub(crate) enum Line {
     /// The own jobs of a concept, by their right concepts.

@@ -4,7 +4,8 @@ use Rattle.saturation.specs.Effects.{Rechecked}
 use Rattle.board.specs.Views.{moment_of}
 use Rattle.board.specs.Frames.{Kept}
 use Rattle.board.proofs.Frames.{kept_same, kept_framed, ready_kept}
-use Rattle.sharing.proofs.Turning.{lowered_ok, rechecked_ok, gave_back}
+use Rattle.board.proofs.Running.{lowered_ok, rechecked_ok}
+use Rattle.sharing.proofs.Turning.{gave_back}
 use Rattle.sharing.proofs.give_back.Goals as goal
 
 pub unwrap-lowered-requires : goal.unwrap-lowered-requires
