@@ -57,11 +57,12 @@ impl Damage<'_> {
         let mut changed = columns;
         let byte = self.random.pick(&BYTES);
         let from = self.random.below(6);
-        for column in changed.iter_mut().skip(from) {
-            if column.is_ascii_digit() {
-                *column = byte;
-                break;
-            }
+        if let Some(column) = changed
+            .iter_mut()
+            .skip(from)
+            .find(|column| column.is_ascii_digit())
+        {
+            *column = byte;
         }
         changed
     }

@@ -50,6 +50,7 @@ impl AtPoint<'_> {
     ) -> Result<Vec<u16>, AllocError>
         requires { (state : F) (b : _) → F.pre state b }
     {
+        // All of them, since a sheet has at most 1024. `take` on a range of all numbers: the check finds no proof that `test` may be called.
         let concepts = u16::try_from(self.table.concepts).unwrap_or(u16::MAX);
         (0..concepts)
             .filter(|b| test(usize::from(*b)))

@@ -6,6 +6,7 @@ use std::iter;
 pub const BLANK: [u8; 6] = [b' '; 6];
 
 /// The last six digits of the number, right-justified after spaces, without leading zeros.
+// By hand: `{:>6}` writes all digits of a longer number, and this the last six.
 pub fn six_columns(number: usize) -> [u8; 6] {
     let mut columns = BLANK;
     let mut rest = number;

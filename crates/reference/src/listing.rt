@@ -30,17 +30,37 @@ const TOO_LONG: Fault = Fault {
     column: 1,
 };
 
+/// Why a sheet gets no board, with the number that is printed for it.
+#[derive(Clone, Copy, Debug)]
+enum Boardless {
+    /// An inclusion has a code beyond the last.
+    ForeignCode = 8,
+    /// The board has too few words.
+    TooFewWords = 9,
+}
+
 /// Why there is no listing.
 #[derive(Debug, Drop)]
 enum Unlisted {
     /// The text is no sheet.
     Fault(Fault),
-    /// An inclusion has a code beyond the last.
-    ForeignCode,
-    /// The board has too few words.
-    TooFewWords,
+    /// The sheet gets no board.
+    Board(Boardless),
     /// There is no memory.
     Memory(AllocError),
+}
+
+impl Boardless {
+    /// The number that is printed for it.
+    fn number(self) -> u16 {
+        self as u16
+    }
+}
+
+impl From<Boardless> for Unlisted {
+    fn from(error: Boardless) -> Unlisted {
+        Unlisted::Board(error)
+    }
 }
 
 impl From<Unread> for Unlisted {
@@ -59,13 +79,13 @@ impl From<AllocError> for Unlisted {
 }
 
 /// Whether the vocabulary gets a board.
-fn check_board(vocabulary: &Vocabulary) -> Result<(), Unlisted> {
+fn check_board(vocabulary: &Vocabulary) -> Result<(), Boardless> {
     if vocabulary
         .inclusions
         .iter()
         .any(|inclusion| inclusion.code > LAST_CODE)
     {
-        return Err(Unlisted::ForeignCode);
+        return Err(Boardless::ForeignCode);
     }
     let concepts = vocabulary.concepts.len();
     let planes = vocabulary.above.len().saturating_mul(2).saturating_add(3);
@@ -74,7 +94,7 @@ fn check_board(vocabulary: &Vocabulary) -> Result<(), Unlisted> {
         .saturating_mul(planes)
         .saturating_add(concepts);
     if words > WORDS {
-        return Err(Unlisted::TooFewWords);
+        return Err(Boardless::TooFewWords);
     }
     Ok(())
 }
@@ -87,6 +107,7 @@ fn push_row(
     a: usize,
 ) -> Result<(), AllocError> {
     for d in (0..table.concepts).filter(|d| *d != a && vocabulary.is_atomic(*d)) {
+        // Points without a code would be a mistake of the rounds: a number that is no code then shows it.
         let grade = Kind::Releases.code(table.under(a, d)).unwrap_or(u16::MAX);
         if grade != LAST_CODE {
             push_line(output, b"", &[a, d, usize::from(grade)])?;
@@ -116,8 +137,7 @@ pub fn expected_output(heap: Global, text: &[u8]) -> Result<Vec<u8>, AllocError>
         Ok(output) => return Ok(output),
         Err(Unlisted::Memory(error)) => return Err(error),
         Err(Unlisted::Fault(fault)) => [usize::from(fault.number()), fault.line, fault.column],
-        Err(Unlisted::ForeignCode) => [8, 0, 0],
-        Err(Unlisted::TooFewWords) => [9, 0, 0],
+        Err(Unlisted::Board(error)) => [usize::from(error.number()), 0, 0],
     };
     let mut output = Vec::new(heap);
     push_line(&mut output, b"!", &numbers)?;

@@ -156,6 +156,7 @@ mod tests {
     fn random_sheets_have_no_fault(rt: HostRuntime) -> Result<(), Fail> {
         let heap = rt.alloc();
         let mut random = Random::seeded(1);
+        // Counted in the loop, since each sheet may ask for memory in vain, which a closure of `filter` cannot answer.
         let mut faulty = 0u32;
         for concepts in 0..40usize {
             let size = Size {
