@@ -82,6 +82,7 @@ fn named(terms: &Terms) -> usize {
 
 /// Checking answers as it must. A making that is in order queues the named concepts, and any other leaves the pile and makes a board
 /// without concepts and roles, on which no job waits.
+// `rt`, `terms` and `kind` go on one by one: a struct of them would bring a lifetime and a type for the host, and be no plainer.
 fn check_making<K: GradeKind, P: Pile>(
     rt: &impl Abort,
     terms: &Terms,

@@ -69,18 +69,14 @@ fn act_with_other<K: GradeKind, P: Pile>(
 ) -> Shown {
     let mut list = [0; SIZE];
     let mut other = Marks::new(&mut list[0..size.min(SIZE)]);
-    let held = number.unwrap_or(u16::MAX);
-    let _ = other.put(held);
+    if let Some(x) = number {
+        let _ = other.put(x);
+    }
     let count = other.count();
-    let board = &mut *desk.board;
-    let mut elsewhere = Desk {
-        board,
-        pile: &mut other,
-        terms: desk.terms,
-    };
+    let mut elsewhere = Desk::new(&mut *desk.board, &mut other, desk.terms);
     let shown = act(&mut elsewhere, deed, hand);
     if shown.answer.is_err() {
-        score.expect(other.count() == count && other.holds(held) == number.is_some());
+        score.expect(other.count() == count && number.is_none_or(|x| other.holds(x)));
     }
     shown
 }
@@ -156,18 +152,10 @@ impl<'s> Sheets<'s> {
         for line in script.iter().filter(|line| shows || line.is_fine()) {
             let terms = self.of(*line);
             hands = if line.is_wide() {
-                let mut desk = Desk {
-                    board: &mut wide,
-                    pile: &mut ring,
-                    terms,
-                };
+                let mut desk = Desk::new(&mut wide, &mut ring, terms);
                 play_line(&mut desk, *line, hands, score)
             } else {
-                let mut desk = Desk {
-                    board: &mut board,
-                    pile,
-                    terms,
-                };
+                let mut desk = Desk::new(&mut board, pile, terms);
                 play_line(&mut desk, *line, hands, score)
             };
         }
