@@ -9,6 +9,7 @@ use piles::marks::Marks;
 use rejections::Rejection;
 use staging::sheets::with_terms;
 use std::alloc::Global;
+use std::iter;
 use std::process::Abort;
 use std::test::Fail;
 use terms::terms::Terms;
@@ -157,8 +158,9 @@ fn check_answers<K: GradeKind>(
         let Case(ask, expected, front) = *case;
         let mut list = [BEFORE; LIST];
         assert_eq!(rt; answer(board, terms, ask, &mut list), expected);
-        for (place, number) in list.iter().enumerate() {
-            assert_eq!(rt; *number, front.get(place).copied().unwrap_or(BEFORE));
+        let due = front.iter().copied().chain(iter::repeat(BEFORE));
+        for (number, due) in list.iter().zip(due) {
+            assert_eq!(rt; *number, due);
         }
     }
     Ok(())

@@ -3,12 +3,11 @@ use grades::kind::GradeKind;
 use grades::releases::Releases;
 use piles::pile::Pile;
 use piles::ring::Ring;
-use reference::padded;
 use rejections::Rejection;
 use sharing::share;
-use sheet::read;
+use staging::sheets::with_terms;
+use std::process::Abort;
 use std::test::Fail;
-use terms::records::{Concept, Inclusion};
 use terms::terms::Terms;
 
 /// A transitive role with a role below it, and a chain of two restrictions.
@@ -38,37 +37,40 @@ fn shared<K: GradeKind>(terms: &Terms, words: &mut [u16], kind: K, workers: u16)
     }
 }
 
-#[test]
-fn the_number_of_workers_decides_nothing(rt: HostRuntime) -> Result<(), Fail> {
-    // By hand, since it is read once: the closure of `staging` would hold the whole test.
-    let mut concepts = [Concept::Atomic; 6];
-    let mut inclusions = [Inclusion::default(); 3];
-    let mut terms = Terms::empty(&mut concepts, &mut inclusions);
-    read(&padded(rt.alloc(), SHEET)?, &mut terms)?;
+/// However many workers share, the words and what is found are those of one run, and too few words stay as they are.
+fn check_workers(rt: &impl Abort, terms: &Terms) -> Result<(), Fail> {
     let mut alone = [9; WORDS + 1];
-    let end = shared(&terms, &mut alone, Releases, 0);
+    let end = shared(terms, &mut alone, Releases, 0);
     assert_eq!(rt; (end.under, end.piled, alone[WORDS]), (Ok(2), 0, 9));
     for workers in [1, 2, 3, 4, 5, 1000] {
         let mut words = [9; WORDS + 1];
-        let end = shared(&terms, &mut words, Releases, workers);
+        let end = shared(terms, &mut words, Releases, workers);
         assert_eq!(rt; (end.under, end.piled), (Ok(2), 0));
         assert!(rt; words == alone);
     }
     let mut few = [9; WORDS - 1];
-    let end = shared(&terms, &mut few, Releases, 3);
+    let end = shared(terms, &mut few, Releases, 3);
     assert_eq!(rt; (end.under, end.steps), (Err(Rejection::OtherTerms), 0));
     assert!(rt; few == [9; WORDS - 1]);
     Ok(())
 }
 
-#[test]
-fn the_empty_sheet_needs_no_words(rt: HostRuntime) -> Result<(), Fail> {
-    let mut terms = Terms::empty(&mut [], &mut []);
-    read(b"", &mut terms)?;
-    let end = shared(&terms, &mut [], Releases, 2);
+/// On the empty sheet there is nothing to find and nothing to do.
+fn check_empty(rt: &impl Abort, terms: &Terms) -> Result<(), Fail> {
+    let end = shared(terms, &mut [], Releases, 2);
     assert_eq!(rt;
         (end.under, end.steps, end.piled),
         (Err(Rejection::NoSuchConcept), 0, 0)
     );
     Ok(())
+}
+
+#[test]
+fn the_number_of_workers_decides_nothing(rt: HostRuntime) -> Result<(), Fail> {
+    with_terms(rt.alloc(), 6, SHEET, |terms| check_workers(&rt, terms))
+}
+
+#[test]
+fn the_empty_sheet_needs_no_words(rt: HostRuntime) -> Result<(), Fail> {
+    with_terms(rt.alloc(), 0, b"", |terms| check_empty(&rt, terms))
 }

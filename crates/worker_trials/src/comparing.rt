@@ -5,6 +5,7 @@ use crate::trial::CONCEPTS;
 use board::closed::ClosedBoard;
 use grades::kind::GradeKind;
 use reference::{AtPoint, Kind, Room, Table, Vocabulary, saturate};
+use rejections::Rejection;
 use staging::trouble::Trouble;
 use std::alloc::Global;
 use terms::terms::Terms;
@@ -23,6 +24,19 @@ pub struct Truth<'t> {
     vocabulary: Vocabulary,
     table: Table,
     kind: Kind,
+}
+
+/// The answer is the count of the expected numbers, with which the list begins.
+fn check_list(
+    answer: Result<usize, Rejection>,
+    list: &[u16],
+    expected: &[u16],
+    wrong: &'static str,
+) -> Result<(), Trouble<Slots>> {
+    if answer != Ok(expected.len()) || !list.starts_with(expected) {
+        return Err(Trouble::Differs(wrong));
+    }
+    Ok(())
 }
 
 impl<'t> Truth<'t> {
@@ -75,15 +89,10 @@ impl<'t> Truth<'t> {
         let mut list = [u16::MAX; CONCEPTS];
         let mated = board.mates(self.terms, a, point, &mut list);
         let expected = at.mates(self.heap, place)?;
-        if mated != Ok(expected.len()) || !list.starts_with(&expected) {
-            return Err(Trouble::Differs("other mates"));
-        }
+        check_list(mated, &list, &expected, "other mates")?;
         let above = board.parents(self.terms, a, point, &mut list);
         let expected = at.parents(self.heap, place)?;
-        if above != Ok(expected.len()) || !list.starts_with(&expected) {
-            return Err(Trouble::Differs("other parents"));
-        }
-        Ok(())
+        check_list(above, &list, &expected, "other parents")
     }
 
     /// The grades of a named concept are those that the board answers, and so are its mates and parents at a random point.
@@ -93,10 +102,8 @@ impl<'t> Truth<'t> {
         a: u16,
         point: u8,
     ) -> Result<(), Trouble<Slots>> {
-        for d in 0..CONCEPTS as u16 {
-            if usize::from(d) < self.terms.concepts().len()
-                && board.under(self.terms, a, d).ok() != self.under(a, d)
-            {
+        for d in (0..CONCEPTS as u16).take(self.terms.concepts().len()) {
+            if board.under(self.terms, a, d).ok() != self.under(a, d) {
                 return Err(Trouble::Differs("another grade"));
             }
         }
@@ -112,11 +119,9 @@ impl<'t> Truth<'t> {
         if !self.allows(board.steps()) {
             return Err(Trouble::Differs("another count of steps"));
         }
-        for a in 0..CONCEPTS as u16 {
-            if self.terms.is_named(a) {
-                let point = course.random.below(usize::from(K::points())).min(63) as u8;
-                self.check_row(board, a, point)?;
-            }
+        for a in (0..CONCEPTS as u16).filter(|a| self.terms.is_named(*a)) {
+            let point = course.random.below(usize::from(K::points())).min(63) as u8;
+            self.check_row(board, a, point)?;
         }
         Ok(())
     }

@@ -1,7 +1,7 @@
 //! The histories of each kind of grade, and what they came to.
 use crate::history::{Course, Tally};
 use crate::slots::Slots;
-use crate::trial::{CONCEPTS, INCLUSIONS, compare};
+use crate::trial::{CONCEPTS, INCLUSIONS, Tried, compare};
 use grades::kind::GradeKind;
 use grades::plain::Plain;
 use grades::releases::Releases;
@@ -17,12 +17,7 @@ use std::test::*;
 const HISTORIES: u64 = 2000;
 
 /// Random sheets with one history each; in every other one, lowered leases may be rechecked on the wrong board.
-fn compare_all<K: GradeKind>(
-    heap: Global,
-    kind: K,
-    known: Kind,
-    most_code: u16,
-) -> Result<Tally, Trouble<Slots>> {
+fn compare_all<K: GradeKind>(heap: Global, tried: Tried<K>) -> Result<Tally, Trouble<Slots>> {
     let mut course = Course {
         random: Random::seeded(1),
         astray: false,
@@ -35,10 +30,10 @@ fn compare_all<K: GradeKind>(
             concepts: course.random.below(CONCEPTS + 1),
             roles: course.random.below(3),
             inclusions: course.random.below(INCLUSIONS + 1),
-            most_code,
+            most_code: tried.most_code,
         };
         let text = random_sheet(heap, &mut course.random, size)?;
-        compare(heap, kind, known, &text, &mut course)?;
+        compare(heap, tried, &text, &mut course)?;
     }
     Ok(course.tally)
 }
@@ -48,12 +43,10 @@ fn check_histories<K: GradeKind>(
     rt: &(impl Abort + Print),
     heap: Global,
     name: &str,
-    kind: K,
-    known: Kind,
-    most_code: u16,
+    tried: Tried<K>,
     expected: &str,
 ) -> Result<(), Fail> {
-    match compare_all(heap, kind, known, most_code) {
+    match compare_all(heap, tried) {
         Ok(tally) => {
             println!(rt; "{name}: {HISTORIES} sheets and histories compared, {tally}")?;
             let text = format!(in heap; "{tally}")?;
@@ -70,9 +63,11 @@ fn histories_with_one_point(rt: HostRuntime) -> Result<(), Fail> {
         &rt,
         rt.alloc(),
         "Plain",
-        Plain,
-        Kind::Plain,
-        1,
+        Tried {
+            kind: Plain,
+            known: Kind::Plain,
+            most_code: 1,
+        },
         "16962 takes, 19404 steps, 36880 leases refused, 3727 rechecks astray, 814 boards healed, 5714 questions too early",
     )
 }
@@ -83,9 +78,11 @@ fn histories_of_releases(rt: HostRuntime) -> Result<(), Fail> {
         &rt,
         rt.alloc(),
         "Releases",
-        Releases,
-        Kind::Releases,
-        64,
+        Tried {
+            kind: Releases,
+            known: Kind::Releases,
+            most_code: 64,
+        },
         "18365 takes, 22344 steps, 40282 leases refused, 4072 rechecks astray, 865 boards healed, 6374 questions too early",
     )
 }
@@ -96,9 +93,11 @@ fn histories_of_views(rt: HostRuntime) -> Result<(), Fail> {
         &rt,
         rt.alloc(),
         "Views",
-        Views,
-        Kind::Views,
-        65535,
+        Tried {
+            kind: Views,
+            known: Kind::Views,
+            most_code: 65535,
+        },
         "17928 takes, 21691 steps, 38483 leases refused, 3967 rechecks astray, 848 boards healed, 6183 questions too early",
     )
 }

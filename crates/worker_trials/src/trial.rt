@@ -26,6 +26,14 @@ pub const INCLUSIONS: usize = 12;
 /// The words of a board for so many concepts and two roles.
 const WORDS: usize = 710;
 
+/// A kind of grade that is tried: the library's, the other classifier's, and the greatest code of its sheets.
+#[derive(Clone, Copy)]
+pub struct Tried<K> {
+    pub kind: K,
+    pub known: Kind,
+    pub most_code: u16,
+}
+
 /// A sheet of which all is compared: what the other classifier says of it, and the kind of grade.
 #[derive(Drop)]
 struct Trial<'t, K> {
@@ -118,10 +126,9 @@ impl<'t, K: GradeKind> Trial<'t, K> {
         course: &mut Course,
     ) -> OpenBoard<'a, K> {
         let mut open = board;
-        let waits = match open.run(self.truth.terms, pile, 0) {
-            Ok(ran) => ran.outcome != Outcome::Finished,
-            Err(_) => true,
-        };
+        let waits = !open
+            .run(self.truth.terms, pile, 0)
+            .is_ok_and(|ran| ran.outcome == Outcome::Finished);
         let a = course.random.below(CONCEPTS).min(CONCEPTS) as u16;
         let closed = open.close();
         match closed.under(self.truth.terms, a, a) {
@@ -205,13 +212,13 @@ impl<'t, K: GradeKind> Trial<'t, K> {
 /// Compares all that is said of a sheet.
 pub fn compare<K: GradeKind>(
     heap: Global,
-    kind: K,
-    known: Kind,
+    tried: Tried<K>,
     text: &[u8],
     course: &mut Course,
 ) -> Result<(), Trouble<Slots>> {
     with_terms(heap, INCLUSIONS, text, |terms| {
-        let truth = Truth::of(heap, text, terms, known)?;
+        let truth = Truth::of(heap, text, terms, tried.known)?;
+        let kind = tried.kind;
         Trial { truth, kind }.compare_boards(course)
     })?;
     if course.wrong {
