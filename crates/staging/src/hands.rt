@@ -66,7 +66,7 @@ impl Hand {
 }
 
 impl<'b, 'w, 'p, 't, K, P> Desk<'b, 'w, 'p, 't, K, P> {
-    /// The board with its pile and the terms. Where a board is used after its desk, only a desk that this call made is proved.
+    /// The board with its pile and the terms.
     pub fn new(board: &'b mut OpenBoard<'w, K>, pile: &'p mut P, terms: &'t Terms<'t>) -> Self {
         Desk { board, pile, terms }
     }
