@@ -37,6 +37,7 @@ impl<'b> Reader<'b> {
     }
 
     /// The state of a concept.
+    // That `c` is below the count stays a clause, as for a fact.
     pub(crate) fn state(&self, c: usize) -> State
         requires { c < self.now.counts.concepts }
         ensures { result ≡ (read_of self.now).state c }

@@ -76,6 +76,7 @@ impl<'b> Reader<'b> {
     }
 
     /// The first job that waits at `c`, on a board with the counts of these terms.
+    // That `c` is one of the terms' concepts stays a clause: a type for such a number would have to name the terms.
     pub(crate) fn first(&self, terms: &Terms, c: u16) -> Option<Job>
         requires fitted { Fitted (terms_of terms.now) self.now }
         requires left { c < length (terms_of terms.now).concepts }

@@ -9,6 +9,7 @@ use reasoning::Fact;
 
 impl<'b, K: GradeKind> Asked<'b, K> {
     /// The same, asked about `b`.
+    // That a number is below the count stays a clause, here and below: a type for such a number would have to name its board.
     fn of(&self, b: u16) -> Asked<'b, K>
         requires { b < self.now.board.reader.counts.concepts }
         ensures concept { result.concept ≡ b }
