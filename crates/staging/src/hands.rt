@@ -1,4 +1,8 @@
 //! A worker's hand, and a board to which it is shown.
+ghost use Rattle.std.specs.Prelude.{◌≡◌, true, IsOk};
+ghost use Rattle.terms.specs.Views.{terms_of};
+ghost use Rattle.staging.specs.Hands.{is_empty, is_holding, is_owing, Answered, RanOut};
+
 use board::board::OpenBoard;
 use board::tokens::{Lease, LoweredLease, Refused};
 use grades::kind::GradeKind;
@@ -60,21 +64,27 @@ impl Refusal {
 
 impl Hand {
     /// The hand after a deed, and its answer.
-    fn shown(self, answer: Result<(), Refusal>) -> Shown {
+    fn shown(self, answer: Result<(), Refusal>) -> Shown
+        ensures { result ≡ record { hand = self; answer = answer } }
+    {
         Shown { hand: self, answer }
     }
 }
 
 impl<'b, 'w, 'p, 't, K, P> Desk<'b, 'w, 'p, 't, K, P> {
     /// The board with its pile and the terms.
-    pub fn new(board: &'b mut OpenBoard<'w, K>, pile: &'p mut P, terms: &'t Terms<'t>) -> Self {
+    pub fn new(board: &'b mut OpenBoard<'w, K>, pile: &'p mut P, terms: &'t Terms<'t>) -> Self
+        ensures { (result.board.now ≡ board.old) × (result.pile.now ≡ pile.old) × (result.terms.now ≡ terms.now) }
+    {
         Desk { board, pile, terms }
     }
 }
 
 impl<'b, 'w, 'p, 't, K: GradeKind, P: Pile> Desk<'b, 'w, 'p, 't, K, P> {
     /// Takes a concept into an empty hand.
-    pub fn take(&mut self, hand: Hand) -> Shown {
+    pub fn take(&mut self, hand: Hand) -> Shown
+        ensures { Answered is_empty is_holding hand result }
+    {
         let Hand::Empty = hand else {
             return hand.shown(Err(Refusal::OtherHand));
         };
@@ -85,7 +95,9 @@ impl<'b, 'w, 'p, 't, K: GradeKind, P: Pile> Desk<'b, 'w, 'p, 't, K, P> {
     }
 
     /// Shows the lease in hand for a step.
-    pub fn step(&mut self, hand: &Hand) -> Result<(), Refusal> {
+    pub fn step(&mut self, hand: &Hand) -> Result<(), Refusal>
+        ensures { IsOk result → is_holding hand.now ≡ true }
+    {
         let Hand::Holding(lease) = hand else {
             return Err(Refusal::OtherHand);
         };
@@ -94,7 +106,9 @@ impl<'b, 'w, 'p, 't, K: GradeKind, P: Pile> Desk<'b, 'w, 'p, 't, K, P> {
     }
 
     /// Shows the lease in hand for a lowering.
-    pub fn lower(&mut self, hand: Hand) -> Shown {
+    pub fn lower(&mut self, hand: Hand) -> Shown
+        ensures { Answered is_holding is_owing hand result }
+    {
         let Hand::Holding(lease) = hand else {
             return hand.shown(Err(Refusal::OtherHand));
         };
@@ -109,7 +123,9 @@ impl<'b, 'w, 'p, 't, K: GradeKind, P: Pile> Desk<'b, 'w, 'p, 't, K, P> {
     }
 
     /// Shows the lowered lease in hand for a recheck.
-    pub fn recheck(&mut self, hand: Hand) -> Shown {
+    pub fn recheck(&mut self, hand: Hand) -> Shown
+        ensures { Answered is_owing is_empty hand result }
+    {
         let Hand::Owing(lowered) = hand else {
             return hand.shown(Err(Refusal::OtherHand));
         };
@@ -124,7 +140,9 @@ impl<'b, 'w, 'p, 't, K: GradeKind, P: Pile> Desk<'b, 'w, 'p, 't, K, P> {
     }
 
     /// Runs to the end.
-    pub fn run(&mut self) -> Result<(), Refusal> {
+    pub fn run(&mut self) -> Result<(), Refusal>
+        ensures { IsOk result → RanOut (terms_of self.old.terms.now) K.GradeKind.kind P.Pile.numbers self.old.board.now self.old.pile.now self.new.board.now self.new.pile.now }
+    {
         match self.board.run(self.terms, self.pile, u64::MAX)?.outcome {
             Outcome::Finished => Ok(()),
             Outcome::Spent | Outcome::Left => Err(Refusal::Unfinished),
