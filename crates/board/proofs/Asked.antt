@@ -7,6 +7,7 @@ use Rattle.grades.specs.Kinds.{Kind}
 use Rattle.terms.specs.Vocabularies.{Vocabulary, Named}
 use Rattle.saturation.specs.Boards.{Board}
 use Rattle.saturation.specs.Answers.{FoundUnder, Mate, Parent, Ascending, ListOf}
+use Rattle.saturation.proofs.Lists.{ascending_behind}
 use Rattle.saturation.proofs.Deciding.{mate_decides, parent_decides}
 use Rattle.board.specs.Asking.{picked, under_test, mate_test, parent_test}
 
@@ -31,26 +32,15 @@ picked_every f (suc n) x l e = elim (cases_eq x n) [
   | inr d ↦ Memᴰ.append_left (cond (f n) (n ∷ []) []) (picked_every f n x (omega arith) e)
 ]
 
--- a larger number behind an ascending list
-ascending_then : (xs : List ℕ) (n : ℕ) → Ascending xs → ((x : ℕ) → Memᴰ x xs → x < n) → Ascending (xs ++ n ∷ [])
-ascending_then [] n a h = ((λ y m. absurd (Memᴰ.not-nil m)), tt)
-ascending_then (x ∷ xs) n a h = (
-  (λ y m. elim (Memᴰ.append_cases xs m) [ inl t ↦ a.0 y t | inr t ↦ let e = Memᴰ.eq_of_singleton t in let l = h x (Memᴰ.head refl) in omega arith ]),
-  ascending_then xs n a.1 (λ y m. h y (Memᴰ.tail m)),
-)
-
-ascending_none : (xs : List ℕ) → Ascending xs → Ascending (xs ++ [])
-ascending_none [] a = tt
-ascending_none (x ∷ xs) a =
-    ((λ y m. elim (Memᴰ.append_cases xs m) [ inl t ↦ a.0 y t | inr t ↦ absurd (Memᴰ.not-nil t) ]), ascending_none xs a.1)
-
-picked_ascending : (f : ℕ → Bool) (n : ℕ) → Ascending (picked f n)
+picked_ascending : (f : ℕ → Bool) (n : ℕ) → Ascending (λ x y. x < y) (picked f n)
 picked_ascending f zero = tt
 picked_ascending f (suc n) = go (picked_ascending f n) (f n)
   where
-    go : Ascending (picked f n) → (b : Bool) → Ascending (picked f n ++ cond b (n ∷ []) [])
-    go a true = ascending_then (picked f n) n a (λ x m. (picked_each f n x m).0)
-    go a false = ascending_none (picked f n) a
+    go : Ascending (λ x y. x < y) (picked f n) → (b : Bool) → Ascending (λ x y. x < y) (picked f n ++ cond b (n ∷ []) [])
+    go a true =
+        ascending_behind (λ x y. x < y) (picked f n) (n ∷ []) a ((λ y m. absurd (Memᴰ.not-nil m)), tt)
+        (λ x y m t. let e = Memᴰ.eq_of_singleton t in let l = (picked_each f n x m).0 in omega arith)
+    go a false = ascending_behind (λ x y. x < y) (picked f n) [] a tt (λ x y m t. absurd (Memᴰ.not-nil t))
 
 picked_list : (f : ℕ → Bool) (n : ℕ) (P : ℕ → Type 0) → ((x : ℕ) → x < n → f x ≡ true → P x) → ((x : ℕ) → P x → (x < n) × (f x ≡ true)) → ListOf P (picked f n)
 picked_list f n P to from = record {

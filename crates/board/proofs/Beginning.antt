@@ -14,7 +14,7 @@ use Rattle.saturation.specs.declared.State.TheVariants.{Queued}
 use Rattle.saturation.specs.Boards.{Moment, Sane}
 use Rattle.saturation.specs.Effects.{Made}
 use Rattle.board.specs.Stages.{OpenBoard}
-use Rattle.board.specs.Views.{board_of, moment_of}
+use Rattle.board.specs.Views.{content_of, moment_of}
 use Rattle.board.specs.Frames.{Framed}
 use Rattle.board.specs.Moves.{Wrote, Nudged}
 use Rattle.board.specs.Making.{Begun}
@@ -22,18 +22,18 @@ use Rattle.board.specs.Refusals.{MakeRejected, InOrder}
 
 module _ {X Y : Type 0} (v : Vocabulary) (k : Kind) (numbers : Y → Numbers) where
   module _ (i : ℕ) (b c d : OpenBoard X) (p q : Y) (B : Begun v k numbers i b p) (I : Named v i) (sizes : Framed b c) (more : Framed c d)
-      (W : Wrote (length v.concepts) v.roles (under i i) k.all (board_of b) (board_of c))
+      (W : Wrote (length v.concepts) v.roles (under i i) k.all (content_of b) (content_of c))
       (N : Nudged (length v.concepts) v.roles i (moment_of numbers c p) (moment_of numbers d q)) where
-    kept_found : (f : Fact) → Within v f → (f ≡ under i i → ⊥) → (board_of d).found f ≡ (board_of b).found f
+    kept_found : (f : Fact) → Within v f → (f ≡ under i i → ⊥) → (content_of d).found f ≡ (content_of b).found f
     kept_found f w ne = N.grades.found f w ∙ W.found f w ne
 
-    kept_state : (x : ℕ) → x < length v.concepts → (x ≡ i → ⊥) → (board_of d).state x ≡ (board_of b).state x
+    kept_state : (x : ℕ) → x < length v.concepts → (x ≡ i → ⊥) → (content_of d).state x ≡ (content_of b).state x
     kept_state x l ne = (N.others x l ne).0 ∙ W.state x l
 
-    now_found : (board_of d).found (under i i) ≡ k.all
+    now_found : (content_of d).found (under i i) ≡ k.all
     now_found = N.grades.found (under i i) (I.0, I.0) ∙ W.here
 
-    now_queued : ((board_of d).state i ≡ Queued) × ((numbers q).holds i ≡ true)
+    now_queued : ((content_of d).state i ≡ Queued) × ((numbers q).holds i ≡ true)
     now_queued = N.here (W.state i I.0 ∙ B.idle i I.0 (λ h. absurd (omega arith)))
 
     other_start : (a : ℕ) → (a ≡ i → ⊥) → under a a ≡ under i i → ⊥
@@ -41,14 +41,13 @@ module _ {X Y : Type 0} (v : Vocabulary) (k : Kind) (numbers : Y → Numbers) wh
 
     pub begun_more : (numbers q).size ≡ (numbers p).size → Begun v k numbers (i + 1) d q
     begun_more r = record {
-      concepts = more.concepts ∙ sizes.concepts ∙ B.concepts;
-      roles = more.roles ∙ sizes.roles ∙ B.roles;
+      counts = record { concepts = more.concepts ∙ sizes.concepts ∙ B.counts.concepts; roles = more.roles ∙ sizes.roles ∙ B.counts.roles };
       wide = omega (arith, more.concepts, sizes.concepts, B.wide);
       steps = N.grades.steps ∙ W.steps ∙ B.steps;
-      started = λ a l at. ⊎_elim (λ e. subst (λ u. (board_of d).found (under u u) ≡ k.all) (sym e) now_found) (λ ne. kept_found (under a a) (at.0, at.0) (other_start a ne) ∙ B.started a (omega arith) at) (cases_eq a i);
+      started = λ a l at. ⊎_elim (λ e. subst (λ u. (content_of d).found (under u u) ≡ k.all) (sym e) now_found) (λ ne. kept_found (under a a) (at.0, at.0) (other_start a ne) ∙ B.started a (omega arith) at) (cases_eq a i);
       unfound = λ f w n. kept_found f w (n i (omega arith) I) ∙ B.unfound f w (λ a l. n a (omega arith));
       undone = λ j w. N.grades.done j w ∙ W.done j w ∙ B.undone j w;
-      queued = λ a l at. ⊎_elim (λ e. subst (λ u. (board_of d).state u ≡ Queued) (sym e) now_queued.0) (λ ne. kept_state a at.0 ne ∙ B.queued a (omega arith) at) (cases_eq a i);
+      queued = λ a l at. ⊎_elim (λ e. subst (λ u. (content_of d).state u ≡ Queued) (sym e) now_queued.0) (λ ne. kept_state a at.0 ne ∙ B.queued a (omega arith) at) (cases_eq a i);
       idle = λ x l n. kept_state x l (λ e. n (omega arith) (subst (λ u. Named v u) (sym e) I)) ∙ B.idle x l (λ h. n (omega arith));
       put = λ a l at. ⊎_elim (λ e. subst (λ u. (numbers q).holds u ≡ true) (sym e) now_queued.1) (λ ne. N.rest a ne ∙ B.put a (omega arith) at) (cases_eq a i);
       nothing_else = λ x n. N.rest x (λ e. n (omega arith) (subst (λ u. Named v u) (sym e) I)) ∙ B.nothing_else x (λ h. n (omega arith));
@@ -101,8 +100,8 @@ module _ (v : Vocabulary) (k : Kind) (L : Lawful k) (m : Moment) (M : Made v k m
   }
 
 -- where there is a reason to reject, a making is not in order
-pub not_in_order : (v : Vocabulary) (k : Kind) (words : ℕ) (s : Numbers) → InOrder v k words s → {e : Rejection} → MakeRejected v k words s e → ⊥
-not_in_order v k words s O (MakeRejected.foreign_code {i = i} m l) = let h = O.coded i m in omega arith
-not_in_order v k words s O (MakeRejected.too_few_words C l) = let h = O.enough in omega arith
-not_in_order v k words s O (MakeRejected.unfit_pile C r (inl l)) = let h = O.wide in omega arith
-not_in_order v k words s O (MakeRejected.unfit_pile C r (inr t)) = false≢true (sym (O.empty t.0) ∙ t.1)
+pub not_in_order : {v : Vocabulary} {k : Kind} {words : ℕ} {s : Numbers} {e : Rejection} → InOrder v k words s → MakeRejected v k words s e → ⊥
+not_in_order O (MakeRejected.foreign_code {i = i} m l) = let h = O.coded i m in omega arith
+not_in_order O (MakeRejected.too_few_words C l) = let h = O.enough in omega arith
+not_in_order O (MakeRejected.unfit_pile C r (inl l)) = let h = O.wide in omega arith
+not_in_order {s = s} O (MakeRejected.unfit_pile C r (inr t)) = false≢true (sym (O.empty t.0) ∙ t.1)

@@ -7,11 +7,11 @@ use Rattle.terms.specs.Vocabularies.{Vocabulary, Is}
 use Rattle.reasoning.specs.declared.Job.{Job}
 use Rattle.reasoning.specs.declared.Job.TheVariants.{Own as own, Link as link, Imply as imply}
 use Rattle.reasoning.specs.Derivations.{Fits, fact_of, JobAt, at_left, at_filler, at_premise}
-use Rattle.saturation.specs.Boards.{Board, Waits, First, QuietAt, Before, own_own, own_link, own_imply, link_left, link_right, link_imply, imply_role, imply_right}
+use Rattle.saturation.specs.Boards.{Board, Rests, Waits, First, QuietAt, Before, own_own, own_link, own_imply, link_left, link_right, link_imply, imply_role, imply_right}
 use Rattle.board.specs.declared.reader.finding.Link.{Link}
 use Rattle.board.specs.declared.reader.finding.Line.{Line}
 use Rattle.board.specs.declared.reader.finding.Line.TheVariants.{Owns, Links, Implications}
-use Rattle.board.specs.Searches.{job_of, Lies, Rests, NoneBelow, FirstBelow, NoLinks, FirstLink, BestLink, NoImplications, FirstImplication}
+use Rattle.board.specs.Searches.{job_of, Lies, NoneBelow, FirstBelow, NoLinks, FirstLink, BestLink, NoImplications, FirstImplication}
 
 pub line_fits : (n m : ℕ) (l : Line) (i : ℕ) → Lies n m l → i < n → Fits n m (fact_of (job_of l i))
 line_fits n m (Owns c) i h l = (h, l)

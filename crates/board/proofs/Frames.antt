@@ -8,15 +8,17 @@ use Rattle.board.specs.Frames.{Framed, Kept}
 use Rattle.board.specs.Raises.{Ready}
 
 pub framed_same : {X : Type 0} {a : OpenBoard X} → Framed a a
-framed_same = record { concepts = refl; roles = refl; lent = refl; extent = refl; further = λ i h. refl }
+framed_same = record { concepts = refl; roles = refl; lent = refl; beyond = record { extent = refl; further = λ i h. refl } }
 
 pub framed_then : {X : Type 0} {a b c : OpenBoard X} → Framed a b → Framed b c → Framed a c
 framed_then F G = record {
   concepts = G.concepts ∙ F.concepts;
   roles = G.roles ∙ F.roles;
   lent = G.lent ∙ F.lent;
-  extent = G.extent ∙ F.extent;
-  further = λ i h. G.further i (subst₂ (λ n m. room n m ≤ i) (sym F.concepts) (sym F.roles) h) ∙ F.further i h;
+  beyond = record {
+    extent = G.beyond.extent ∙ F.beyond.extent;
+    further = λ i h. G.beyond.further i (subst₂ (λ n m. room n m ≤ i) (sym F.concepts) (sym F.roles) h) ∙ F.beyond.further i h;
+  };
 }
 
 module _ {X Y : Type 0} {numbers : Y → Numbers} where
@@ -30,4 +32,7 @@ module _ {X Y : Type 0} {numbers : Y → Numbers} where
   kept_framed F K = record { frame = framed_then F K.frame; size = K.size }
 
   pub ready_kept : {v : Vocabulary} {a b : OpenBoard X} {p q : Y} → Kept numbers a p b q → Ready v numbers a p → Ready v numbers b q
-  ready_kept K R = record { concepts = K.frame.concepts ∙ R.concepts; roles = K.frame.roles ∙ R.roles; wide = omega (arith, K.frame.concepts, K.size, R.wide) }
+  ready_kept K R = record {
+    counts = record { concepts = K.frame.concepts ∙ R.counts.concepts; roles = K.frame.roles ∙ R.counts.roles };
+    wide = omega (arith, K.frame.concepts, K.size, R.wide);
+  }

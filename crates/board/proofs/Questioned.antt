@@ -31,7 +31,7 @@ asked_list q v k r b p a n i e l = subst (λ (x : Board). ListOf (Wanted q v (Fo
 
 module _ (k : Kind) (lawful : Lawful k) (v : Vocabulary) (wf : WellFormed v) (b : Board) (q : Quiet v b) where
   pub under_truth : (a d : ℕ) → Named v a → d < length v.concepts → UnderTruth v k b a d (b.found (under a d))
-  under_truth a d i l es pile h p o = (quiet_answers_true k lawful v wf es (record { board = b; pile = pile }) h q).under_true a d p i l o
+  under_truth a d i l es pile h p o = (quiet_answers_true k lawful v wf es (record { board = b; pile = pile }) h q).under_true a d i l p o
 
   pub list_truth : (w : Question) (a p : ℕ) (xs : List ℕ) → Named v a → p < k.points → ListOf (Wanted w v (FoundUnder k b p) a) xs → ListTruth w v k b a p xs
   list_truth Mates a p xs i o l es pile h = (quiet_answers_true k lawful v wf es (record { board = b; pile = pile }) h q).mates_true a p xs i o l

@@ -16,13 +16,13 @@ use Rattle.board.proofs.Drawing.{drawn_alike, drawn_then, drawn_none, drawn_guar
 module _ {X Y : Type 0} {g : _} where
   -- the board of a session has the concepts and the roles of its terms
   pub in_terms : (s : Session X Y g) {x : ℕ} → x < s.board.now.counts.concepts → x < length (terms_of s.terms.now).concepts
-  in_terms s h = omega (arith, s.ready.concepts)
+  in_terms s h = omega (arith, s.ready.counts.concepts)
 
   pub on_board : (s : Session X Y g) {x : ℕ} → x < length (terms_of s.terms.now).concepts → x < s.board.now.counts.concepts
-  on_board s h = omega (arith, s.ready.concepts)
+  on_board s h = omega (arith, s.ready.counts.concepts)
 
   pub within_terms : (s : Session X Y g) (f : Fact) → Fits s.board.now.counts.concepts s.board.now.counts.roles f → Within (terms_of s.terms.now) f
-  within_terms s f h = subst₂ (λ n m. Fits n m f) s.ready.concepts s.ready.roles h
+  within_terms s f h = subst₂ (λ n m. Fits n m f) s.ready.counts.concepts s.ready.counts.roles h
 
   pub same_session : {a : Session X Y g} → SameSession a a
   same_session = record { board = refl; pile = refl; terms = refl }

@@ -9,14 +9,14 @@ use Rattle.saturation.specs.declared.State.TheVariants.{Idle, Queued, Held}
 use Rattle.saturation.specs.Boards.{Sane}
 use Rattle.board.specs.Stages.{OpenBoard}
 use Rattle.board.specs.declared.board.states.Change.TheVariants.{Take, Lower}
-use Rattle.board.specs.Views.{board_of}
+use Rattle.board.specs.Views.{content_of}
 use Rattle.board.specs.Frames.{Framed}
 use Rattle.board.specs.Moves.{after, Shifted}
 use Rattle.board.specs.Calls.{StaysSane}
 use Rattle.board.proofs.Frames.{framed_same}
 
 -- a shift that says no leaves everything, and the table asks for nothing
-pub shift_no : {X : Type 0} (c : ℕ) (a b : OpenBoard X) (o : Option State) → Shifted board_of a.counts.concepts a.counts.roles c o a b false → (o ≡ None) × (b ≡ a)
+pub shift_no : {X : Type 0} (c : ℕ) (a b : OpenBoard X) (o : Option State) → Shifted content_of a.counts.concepts a.counts.roles c o a b false → (o ≡ None) × (b ≡ a)
 shift_no c a b None S = (refl, S.0)
 shift_no c a b (Some s) S = absurd (false≢true S.1)
 
@@ -46,4 +46,4 @@ module _ {X : Type 0} {a b : OpenBoard X} (e : b ≡ a) where
   framed_is = subst (λ u. Framed a u) (sym e) framed_same
 
   pub sane_is : (k : Kind) → StaysSane k a b
-  sane_is k S = subst (λ u. Sane a.counts.concepts a.counts.roles k (board_of u)) (sym e) S
+  sane_is k S = subst (λ u. Sane a.counts.concepts a.counts.roles k (content_of u)) (sym e) S

@@ -1,5 +1,5 @@
 -- What each call answers and does, of a board and its pile before and after.
-use Rattle.std.specs.Prelude.{◌≡◌, ℕ, ◌≤◌, Bool, List, length, Ok, Err, Result, slice_index}
+use Rattle.std.specs.Prelude.{◌≡◌, ℕ, ◌≤◌, Bool, List, Ok, Err, Result}
 use Rattle.rejections.specs.declared.Rejection.{Rejection}
 use Rattle.rejections.specs.declared.Rejection.TheVariants.{SmallPile}
 use Rattle.grades.specs.Kinds.{Kind}
@@ -11,30 +11,29 @@ use Rattle.saturation.specs.Effects.{Made, Took, Worked, Lowered, Rechecked}
 use Rattle.saturation.specs.Histories.{Event}
 use Rattle.saturation.specs.Runs.{Runs}
 use Rattle.board.specs.Stages.{AnyBoard, OpenBoard}
+use Rattle.board.specs.Counts.{SameCounts}
 use Rattle.board.specs.declared.board.running.Ran.{Ran}
 use Rattle.board.specs.declared.tokens.Lease.{Lease}
 use Rattle.board.specs.declared.tokens.LoweredLease.{LoweredLease}
 use Rattle.board.specs.declared.tokens.Refused.{Refused}
-use Rattle.board.specs.Layout.{room}
-use Rattle.board.specs.Views.{content_of, board_of, moment_of}
+use Rattle.board.specs.Layout.{room, KeptBeyond}
+use Rattle.board.specs.Views.{content_of, moment_of}
 use Rattle.board.specs.Raises.{Ready}
 use Rattle.board.specs.Refusals.{Unready, TakeRejected, StepRejected, LowerRejected, RecheckRejected}
 
 -- the board keeps sane grades sane
 abbrev pub StaysSane : {X : Type 0} → Kind → OpenBoard X → OpenBoard X → Type 0
-StaysSane k a b = Sane a.counts.concepts a.counts.roles k (board_of a) → Sane a.counts.concepts a.counts.roles k (board_of b)
+StaysSane k a b = Sane a.counts.concepts a.counts.roles k (content_of a) → Sane a.counts.concepts a.counts.roles k (content_of b)
 
 -- a making in order: the board has the vocabulary's counts, start facts are found and queued, and the further words are as before
 pub record MadeBy {X Y : Type 0} (v : Vocabulary) (k : Kind) (numbers : Y → Numbers) (words : List ℕ) (b : OpenBoard X) (q : Y) : Type 0 where
-  pub concepts : b.counts.concepts ≡ length v.concepts
-  pub roles : b.counts.roles ≡ v.roles
+  pub counts : SameCounts v b.counts.concepts b.counts.roles
   pub made : Made v k (moment_of numbers b q)
-  pub sane : Sane b.counts.concepts b.counts.roles k (board_of b)
-  pub extent : length b.words.now ≡ length words
-  pub further : (i : ℕ) → room b.counts.concepts b.counts.roles ≤ i → slice_index b.words.now i ≡ slice_index words i
+  pub sane : Sane b.counts.concepts b.counts.roles k (content_of b)
+  pub beyond : KeptBeyond (room b.counts.concepts b.counts.roles) words b.words.now
 
 -- a making that is rejected: the board has nothing, and nothing is touched
-pub record MadeEmpty {X Y : Type 0} (words : List ℕ) (p : Y) (b : OpenBoard X) (q : Y) : Type 0 where
+pub record MadeEmpty {X S Y : Type 0} (words : List ℕ) (p : Y) (b : AnyBoard X S) (q : Y) : Type 0 where
   pub concepts : b.counts.concepts ≡ 0
   pub roles : b.counts.roles ≡ 0
   pub steps : b.steps ≡ 0
@@ -49,13 +48,13 @@ Taken numbers a p b q (Err e) =
 
 -- a step answers the job that it did; a rejected one leaves everything
 abbrev pub Stepped : {X Y : Type 0} → Vocabulary → Kind → (Y → Numbers) → Lease → OpenBoard X → Y → OpenBoard X → Y → Result Job Rejection → Type 0
-Stepped v k numbers lease a p b q (Ok j) = Ready v numbers a p × (Sane a.counts.concepts a.counts.roles k (board_of a) → Worked v k lease.concept j (moment_of numbers a p) (moment_of numbers b q))
-Stepped v k numbers lease a p b q (Err e) = StepRejected v a.counts.concepts a.counts.roles (numbers p).size (board_of a) lease.concept e × (b ≡ a) × (q ≡ p)
+Stepped v k numbers lease a p b q (Ok j) = Ready v numbers a p × (Sane a.counts.concepts a.counts.roles k (content_of a) → Worked v k lease.concept j (moment_of numbers a p) (moment_of numbers b q))
+Stepped v k numbers lease a p b q (Err e) = StepRejected v a.counts.concepts a.counts.roles (numbers p).size (content_of a) lease.concept e × (b ≡ a) × (q ≡ p)
 
 -- a lowering spends the lease for a lowered one, whatever a pile holds; a rejected one leaves the board and hands the lease back
 abbrev pub LoweredBy : {X : Type 0} → Lease → OpenBoard X → OpenBoard X → Result LoweredLease (Refused Lease) → Type 0
-LoweredBy lease a b (Ok t) = (t.concept ≡ lease.concept) × ((pile : ℕ → Bool) → Lowered a.counts.concepts a.counts.roles lease.concept (record { board = board_of a; pile = pile }) (record { board = board_of b; pile = pile }))
-LoweredBy lease a b (Err r) = LowerRejected a.counts.concepts (board_of a) lease.concept r.rejection × (b ≡ a) × (r.token ≡ lease)
+LoweredBy lease a b (Ok t) = (t.concept ≡ lease.concept) × ((pile : ℕ → Bool) → Lowered a.counts.concepts a.counts.roles lease.concept (record { board = content_of a; pile = pile }) (record { board = content_of b; pile = pile }))
+LoweredBy lease a b (Err r) = LowerRejected a.counts.concepts (content_of a) lease.concept r.rejection × (b ≡ a) × (r.token ≡ lease)
 
 -- a recheck spends the lowered lease; a rejected one leaves everything and hands it back
 abbrev pub RecheckedBy : {X Y : Type 0} → Vocabulary → (Y → Numbers) → LoweredLease → OpenBoard X → Y → OpenBoard X → Y → Result (Unit {0}) (Refused LoweredLease) → Type 0
@@ -66,7 +65,7 @@ RecheckedBy v numbers lowered a p b q (Err r) =
 -- a run answers its outcome and its steps; a rejected one leaves everything
 abbrev pub RanBy : {X Y : Type 0} → Vocabulary → Kind → (Y → Numbers) → ℕ → OpenBoard X → Y → OpenBoard X → Y → Result Ran Rejection → Type 0
 RanBy v k numbers budget a p b q (Ok r) =
-    Ready v numbers a p × (Sane a.counts.concepts a.counts.roles k (board_of a) → (es : List Event) × Runs v k budget r.outcome r.steps es (moment_of numbers a p) (moment_of numbers b q))
+    Ready v numbers a p × (Sane a.counts.concepts a.counts.roles k (content_of a) → (es : List Event) × Runs v k budget r.outcome r.steps es (moment_of numbers a p) (moment_of numbers b q))
 RanBy v k numbers budget a p b q (Err e) = Unready v a.counts.concepts a.counts.roles (numbers p).size e × (b ≡ a) × (q ≡ p)
 
 -- two boards, of whatever stages, are one: the view, the counts and the lent words are the same

@@ -1,5 +1,6 @@
 pub mod Layout
 pub mod Stages
+pub mod Counts
 pub mod Views
 pub mod Frames
 pub mod Moves

@@ -9,8 +9,9 @@ use Rattle.reasoning.specs.declared.Job.{Job}
 use Rattle.reasoning.specs.Derivations.{Within, fact_of}
 use Rattle.saturation.specs.declared.State.TheVariants.{Idle, Queued}
 use Rattle.board.specs.Stages.{OpenBoard}
-use Rattle.board.specs.Layout.{room}
-use Rattle.board.specs.Views.{board_of}
+use Rattle.board.specs.Counts.{SameCounts}
+use Rattle.board.specs.Layout.{room, KeptBeyond}
+use Rattle.board.specs.Views.{content_of}
 
 -- the words from low up to high are g, and the others as before
 pub record Filled (low high g : ℕ) (a b : List ℕ) : Type 0 where
@@ -20,25 +21,22 @@ pub record Filled (low high g : ℕ) (a b : List ℕ) : Type 0 where
 
 -- nothing is found or done, every concept is idle, and the further words are as before
 pub record Blank {X : Type 0} (v : Vocabulary) (k : Kind) (words : List ℕ) (b : OpenBoard X) : Type 0 where
-  pub concepts : b.counts.concepts ≡ length v.concepts
-  pub roles : b.counts.roles ≡ v.roles
-  pub found : (f : Fact) → Within v f → (board_of b).found f ≡ k.none
-  pub done : (j : Job) → Within v (fact_of j) → (board_of b).done j ≡ k.none
-  pub state : (c : ℕ) → c < length v.concepts → (board_of b).state c ≡ Idle
+  pub counts : SameCounts v b.counts.concepts b.counts.roles
+  pub found : (f : Fact) → Within v f → (content_of b).found f ≡ k.none
+  pub done : (j : Job) → Within v (fact_of j) → (content_of b).done j ≡ k.none
+  pub state : (c : ℕ) → c < length v.concepts → (content_of b).state c ≡ Idle
   pub steps : b.steps ≡ 0
-  pub extent : length b.words.now ≡ length words
-  pub further : (i : ℕ) → room b.counts.concepts b.counts.roles ≤ i → slice_index b.words.now i ≡ slice_index words i
+  pub beyond : KeptBeyond (room b.counts.concepts b.counts.roles) words b.words.now
 
 -- the start facts of the concepts below i are found, and those concepts are queued
 pub record Begun {X Y : Type 0} (v : Vocabulary) (k : Kind) (numbers : Y → Numbers) (i : ℕ) (b : OpenBoard X) (p : Y) : Type 0 where
-  pub concepts : b.counts.concepts ≡ length v.concepts
-  pub roles : b.counts.roles ≡ v.roles
+  pub counts : SameCounts v b.counts.concepts b.counts.roles
   pub wide : b.counts.concepts ≤ (numbers p).size
   pub steps : b.steps ≡ 0
-  pub started : (a : ℕ) → a < i → Named v a → (board_of b).found (under a a) ≡ k.all
-  pub unfound : (f : Fact) → Within v f → ((a : ℕ) → a < i → Named v a → f ≢ under a a) → (board_of b).found f ≡ k.none
-  pub undone : (j : Job) → Within v (fact_of j) → (board_of b).done j ≡ k.none
-  pub queued : (a : ℕ) → a < i → Named v a → (board_of b).state a ≡ Queued
-  pub idle : (c : ℕ) → c < length v.concepts → (c < i → Named v c → ⊥) → (board_of b).state c ≡ Idle
+  pub started : (a : ℕ) → a < i → Named v a → (content_of b).found (under a a) ≡ k.all
+  pub unfound : (f : Fact) → Within v f → ((a : ℕ) → a < i → Named v a → f ≢ under a a) → (content_of b).found f ≡ k.none
+  pub undone : (j : Job) → Within v (fact_of j) → (content_of b).done j ≡ k.none
+  pub queued : (a : ℕ) → a < i → Named v a → (content_of b).state a ≡ Queued
+  pub idle : (c : ℕ) → c < length v.concepts → (c < i → Named v c → ⊥) → (content_of b).state c ≡ Idle
   pub put : (a : ℕ) → a < i → Named v a → (numbers p).holds a ≡ true
   pub nothing_else : (c : ℕ) → (c < i → Named v c → ⊥) → (numbers p).holds c ≡ false

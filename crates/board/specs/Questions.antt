@@ -1,14 +1,15 @@
 -- What questions answer, and when they are rejected.
-use Rattle.std.specs.Prelude.{◌≡◌, ℕ, ◌<◌, ◌≤◌, Bool, true, List, ◌++◌, length, drop, Ok, Err, Result}
+use Rattle.std.specs.Prelude.{◌≡◌, ℕ, ◌<◌, ◌≤◌, Bool, List, length, Ok, Err, Result}
 use Rattle.rejections.specs.declared.Rejection.{Rejection}
 use Rattle.rejections.specs.declared.Rejection.TheVariants.{OtherTerms, JobWaits, NoSuchConcept, NoSuchPoint, ShortList}
 use Rattle.grades.specs.Kinds.{Kind}
 use Rattle.terms.specs.Vocabularies.{Vocabulary, Named}
+use Rattle.terms.specs.Lent.{onto}
 use Rattle.reasoning.specs.declared.Fact.TheVariants.{Under as under}
 use Rattle.saturation.specs.Boards.{Board, Quiet}
 use Rattle.saturation.specs.Histories.{Event, History}
-use Rattle.saturation.specs.Answers.{FoundUnder, TrulyUnder, Mate, Parent, ListOf}
-use Rattle.board.specs.Refusals.{SameCounts}
+use Rattle.saturation.specs.Answers.{FoundUnder, TrulyUnder, Truthful, Mate, Parent, ListOf}
+use Rattle.board.specs.Counts.{SameCounts}
 use Rattle.board.specs.declared.reader.asking.Question.{Question}
 use Rattle.board.specs.declared.reader.asking.Question.TheVariants.{Mates, Parents}
 
@@ -37,7 +38,7 @@ Wanted Parents v Lies a b = Parent v Lies a b
 -- count is answered; it is rejected as above, or since a is no named concept (18), the kind lacks the point (19), or the list is shorter (20),
 -- and then leaves the list as it was
 pub data Filled (q : Question) (v : Vocabulary) (k : Kind) (n m : ℕ) (b : Board) (a p : ℕ) (before after : List ℕ) : Result ℕ Rejection → Type 0 where
-  answer : Settled v n m b → Named v a → p < k.points → (xs : List ℕ) → ListOf (Wanted q v (FoundUnder k b p) a) xs → after ≡ xs ++ drop (length xs) before → length xs ≤ length before →
+  answer : Settled v n m b → Named v a → p < k.points → (xs : List ℕ) → ListOf (Wanted q v (FoundUnder k b p) a) xs → after ≡ onto xs before → length xs ≤ length before →
       Filled q v k n m b a p before after (Ok (length xs))
   unsettled : {e : Rejection} → after ≡ before → SettledOr v n m b (Err e) → Filled q v k n m b a p before after (Err e)
   no_concept : after ≡ before → Settled v n m b → (Named v a → ⊥) → Filled q v k n m b a p before after (Err NoSuchConcept)
@@ -49,7 +50,7 @@ pub data Filled (q : Question) (v : Vocabulary) (k : Kind) (n m : ℕ) (b : Boar
 abbrev pub UnderTruth : Vocabulary → Kind → Board → ℕ → ℕ → ℕ → Type 0
 UnderTruth v k b a d g =
     (es : List Event) (pile : ℕ → Bool) → History v k es (record { board = b; pile = pile }) →
-    (p : ℕ) → p < k.points → (k.holds g p ≡ true → TrulyUnder v k p a d) × (TrulyUnder v k p a d → k.holds g p ≡ true)
+    Truthful v k a d g
 
 -- whatever calls led to this board, the list is that of the mates or the parents in all finite models
 abbrev pub ListTruth : Question → Vocabulary → Kind → Board → ℕ → ℕ → List ℕ → Type 0

@@ -10,6 +10,7 @@ use Rattle.saturation.specs.declared.State.TheVariants.{Idle, Queued}
 use Rattle.saturation.specs.Boards.{Board, Moment}
 use Rattle.saturation.specs.Effects.{SameGrades}
 use Rattle.board.specs.Stages.{OpenBoard}
+use Rattle.board.specs.Counts.{SameCounts}
 use Rattle.board.specs.Views.{moment_of}
 use Rattle.board.specs.Frames.{Kept}
 use Rattle.board.specs.Moves.{Stays, Wakes}
@@ -47,8 +48,7 @@ pub record Called (v : Vocabulary) (f : Fact) (a b : Moment) : Type 0 where
 
 -- the board has the vocabulary's counts, and the pile has room for its concepts
 pub record Ready {X Y : Type 0} (v : Vocabulary) (numbers : Y → Numbers) (b : OpenBoard X) (p : Y) : Type 0 where
-  pub concepts : b.counts.concepts ≡ length v.concepts
-  pub roles : b.counts.roles ≡ v.roles
+  pub counts : SameCounts v b.counts.concepts b.counts.roles
   pub wide : b.counts.concepts ≤ (numbers p).size
 
 -- a raise, of a board and its pile before and after

@@ -1,5 +1,5 @@
 -- Why a call is rejected: the first reason that applies, in the order of the rejections' numbers.
-use Rattle.std.specs.Prelude.{◌≡◌, ℕ, ◌<◌, ◌≤◌, true, false, ◌⊎◌, length, ◌≢◌}
+use Rattle.std.specs.Prelude.{◌≡◌, ℕ, ◌<◌, ◌≤◌, true, false, ◌⊎◌, length}
 use mathlib.Core.List.{Memᴰ}
 use Rattle.rejections.specs.declared.Rejection.{Rejection}
 use Rattle.rejections.specs.declared.Rejection.TheVariants.{ForeignCode, TooFewWords, UnfitPile, OtherTerms, SmallPile, EmptyPile, NotQueued, UnfitLease, NothingWaits}
@@ -7,13 +7,11 @@ use Rattle.grades.specs.Kinds.{Kind}
 use Rattle.piles.specs.Sets.{Numbers}
 use Rattle.terms.specs.declared.records.Inclusion.{Inclusion}
 use Rattle.terms.specs.Vocabularies.{Vocabulary}
-use Rattle.saturation.specs.declared.State.TheVariants.{Queued, Held}
+use Rattle.saturation.specs.declared.State.TheVariants.{Held}
 use Rattle.saturation.specs.Boards.{Board, Moment, QuietAt}
+use Rattle.saturation.specs.Runs as runs
 use Rattle.board.specs.Layout.{room}
-
--- a board of n concepts and m roles has the vocabulary's counts
-abbrev pub SameCounts : Vocabulary → ℕ → ℕ → Type 0
-SameCounts v n m = (n ≡ length v.concepts) × (m ≡ v.roles)
+use Rattle.board.specs.Counts.{SameCounts}
 
 -- the concept is one of n, and held
 abbrev pub IsHeld : ℕ → Board → ℕ → Type 0
@@ -44,8 +42,8 @@ pub data Unready (v : Vocabulary) (n m size : ℕ) : Rejection → Type 0 where
 -- a take
 pub data TakeRejected (n size : ℕ) (a : Moment) : Rejection → Type 0 where
   small_pile : size < n → TakeRejected n size a SmallPile
-  empty_pile : n ≤ size → ((x : ℕ) → a.pile x ≡ false) → TakeRejected n size a EmptyPile
-  not_queued : {x : ℕ} → n ≤ size → a.pile x ≡ true → (x < n → a.board.state x ≢ Queued) → TakeRejected n size a NotQueued
+  empty_pile : n ≤ size → runs.EmptyPile a → TakeRejected n size a EmptyPile
+  not_queued : n ≤ size → runs.NotQueued n a → TakeRejected n size a NotQueued
 
 -- a step with a lease of c
 pub data StepRejected (v : Vocabulary) (n m size : ℕ) (b : Board) (c : ℕ) : Rejection → Type 0 where

@@ -4,18 +4,11 @@ use Rattle.terms.specs.declared.records.Concept.TheVariants.{Restriction}
 use Rattle.terms.specs.Vocabularies.{Vocabulary, Is}
 use Rattle.reasoning.specs.declared.Job.{Job}
 use Rattle.reasoning.specs.declared.Job.TheVariants.{Own as own, Link as link, Imply as imply}
-use Rattle.reasoning.specs.Derivations.{fact_of}
-use Rattle.saturation.specs.Boards.{Board, Waits, QuietAt}
+use Rattle.saturation.specs.Boards.{Board, Rests, Waits, QuietAt}
 use Rattle.board.specs.Views.{is_idle}
-use Rattle.board.specs.declared.reader.Reader.{Reader}
 use Rattle.board.specs.declared.reader.finding.Link.{Link}
 use Rattle.board.specs.declared.reader.finding.Line.{Line}
 use Rattle.board.specs.declared.reader.finding.Line.TheVariants.{Owns, Links, Implications}
-
--- the reader is of a board with the vocabulary's counts
-pub record Fitted (v : Vocabulary) (r : Reader) : Type 0 where
-  pub concepts : r.counts.concepts ≡ length v.concepts
-  pub roles : r.counts.roles ≡ v.roles
 
 -- the job of a line that goes by the number i
 abbrev pub job_of : Line → ℕ → Job
@@ -28,10 +21,6 @@ abbrev pub Lies : ℕ → ℕ → Line → Type 0
 Lies n m (Owns c) = c < n
 Lies n m (Links x) = x < n
 Lies n m (Implications s c) = (s < m) × (c < n)
-
--- the job does not wait
-abbrev pub Rests : Board → Job → Type 0
-Rests b j = b.done j ≡ b.found (fact_of j)
 
 -- no job of the line waits that goes by a number below n
 abbrev pub NoneBelow : Board → Line → ℕ → Type 0

@@ -10,7 +10,7 @@ use Rattle.saturation.specs.declared.State.{State}
 use Rattle.saturation.specs.declared.State.TheVariants.{Idle, Queued, Held}
 use Rattle.saturation.specs.Boards.{Board, Moment}
 use Rattle.board.specs.declared.reader.Reader.{Reader}
-use Rattle.board.specs.Stages.{AnyBoard, OpenBoard, ClosedBoard}
+use Rattle.board.specs.Stages.{AnyBoard}
 use Rattle.board.specs.Layout.{place}
 
 -- the state that a word stands for
@@ -67,18 +67,10 @@ view_of words n m steps = record {
 abbrev pub content_of : {X S : Type 0} → AnyBoard X S → Board
 content_of b = view_of b.words.now b.counts.concepts b.counts.roles b.steps
 
--- what an open board says
-abbrev pub board_of : {X : Type 0} → OpenBoard X → Board
-board_of b = content_of b
-
--- what a closed board says
-abbrev pub closed_of : {X : Type 0} → ClosedBoard X → Board
-closed_of b = content_of b
-
 -- what a board that is lent for reading says
 abbrev pub read_of : Reader → Board
 read_of r = view_of r.words.now r.counts.concepts r.counts.roles r.steps
 
 -- a board and what its pile holds
-abbrev pub moment_of : {X Y : Type 0} → (Y → Numbers) → OpenBoard X → Y → Moment
-moment_of numbers b p = record { board = board_of b; pile = (numbers p).holds }
+abbrev pub moment_of : {X S Y : Type 0} → (Y → Numbers) → AnyBoard X S → Y → Moment
+moment_of numbers b p = record { board = content_of b; pile = (numbers p).holds }

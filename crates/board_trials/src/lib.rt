@@ -1,5 +1,5 @@
-//! Every rejection of putting, checking, making and running at its edge: the last value that is accepted, the first that is rejected, and
-//! the first of two faults.
+//! Every rejection of putting, checking and running at its edge: the last value that is accepted, the first that is rejected, and the first
+//! of two faults; and what a making, which rejects nothing, leaves where a check would reject.
 #![tactic(auto)]
 
 #[cfg(test)]

@@ -1,4 +1,4 @@
-//! Rejections of putting, checking and making.
+//! Rejections of putting and checking, and makings where a check rejects.
 use crate::MOST;
 use board::board::OpenBoard;
 use board::checking;

@@ -2,10 +2,10 @@
 use Rattle.std.proofs.Common.{◌≡◌, suc, ◌≤◌, List, [], ◌∷◌, length, sym, refl, ap, ◌∙◌, inl, inr, arith}
 use mathlib.Core.List.Memᴰ
 use mathlib.Core.List.{Memᴰ}
-use Rattle.std.proofs.lemmas.Bool.Decides.{same_from_decides}
 use Rattle.reasoning.specs.declared.Fact.TheVariants.{Under as under}
 use Rattle.saturation.specs.AnyOrder.{Distinct}
 use Rattle.saturation.proofs.OneAnswer.{any_order}
+use Rattle.saturation.proofs.Truths.{one_grade}
 use Rattle.cases.specs.Expectations.{BoardsAnswer}
 
 -- a list without one of its members
@@ -39,8 +39,7 @@ pub boards_answer : BoardsAnswer
 boards_answer k lawful v wf es m h quiet =
     let promise = (any_order k lawful v wf).0 es m h in (
       λ a d code i l g.
-          lawful.same (m.board.found (under a d)) code (promise.sane.found (under a d) (i.0, l)) g.is_code
-          (λ p o. same_from_decides (k.holds (m.board.found (under a d)) p) (k.holds code p) (promise.true_in_models quiet a d p i l o) (g.points p o)),
+          one_grade v k lawful (record { is_code = promise.sane.found (under a d) (i.0, l); truthful = promise.true_in_models quiet a d i l }) g,
       λ n single s.
           let t = promise.exact_steps single quiet in
           let few : length t.0 ≤ length s.0 = no_more t.0 s.0 t.1 (λ u w. s.3 u (t.2 u w)) in

@@ -1,16 +1,17 @@
 -- Each case, as a test that computes.
-use Rattle.std.proofs.Common.{◌≡◌, ℕ, suc, ◌<◌, Bool, true, false, cond, not, ◌&&◌, eqb, ltb, List, [], ◌∷◌, map, length, get_or, Ok, Err, Decides, Result, sym, refl, ap, subst, inl, inr, arith}
+use Rattle.std.proofs.Common.{◌≡◌, ℕ, suc, ◌<◌, Bool, true, false, cond, not, ◌&&◌, ◌||◌, eqb, ltb, List, [], ◌∷◌, map, length, get_or, Ok, Err, Decides, Result, sym, refl, ap, subst, subst₂, inl, inr, arith}
 use mathlib.Core.List.Memᴰ
 use mathlib.Core.List.{Memᴰ}
 use Rattle.std.specs.List.{range_with_len}
 use Rattle.std.proofs.lemmas.List.FromFn.{get_or-map-range_with_len}
-use Rattle.std.proofs.lemmas.Bool.{and_parts, and_from, ltb-true, eqb-true, false≢true}
+use Rattle.std.proofs.lemmas.Bool.{and_parts, and_from, or_cases, ltb-true, eqb-true, false≢true, not_from_false, cases_Bool}
 use Rattle.std.proofs.lemmas.Bool.Decides.{Decides-at, Decides-eqb, Decides-not, Decides-and}
 use Rattle.rejections.specs.declared.Rejection.{Rejection}
 use Rattle.rejections.specs.declared.Rejection.TheVariants.{NoSuchConcept}
 use Rattle.lemmas.specs.Tests.{every, if_then}
 use Rattle.lemmas.proofs.Tests.{every_at, if_at}
-use Rattle.grades.specs.Kinds.{Kind}
+use Rattle.grades.specs.Kinds.{Kind, Lawful}
+use Rattle.grades.specs.Laws.{plain_lawful, releases_lawful, views_lawful}
 use Rattle.terms.specs.declared.records.Inclusion.{Inclusion}
 use Rattle.terms.specs.Contents.{Contents, vocabulary_of}
 use Rattle.terms.specs.Vocabularies.{Vocabulary, Named, is_named, WellFormed}
@@ -18,20 +19,23 @@ use Rattle.reasoning.specs.declared.Fact.{Fact}
 use Rattle.reasoning.specs.declared.Fact.TheVariants.{Under as under}
 use Rattle.reasoning.specs.Derivations.{Derivable}
 use Rattle.saturation.specs.Boards.{Board, Quiet}
-use Rattle.saturation.specs.Answers.{TrulyUnder, Mate, Parent}
+use Rattle.saturation.specs.Answers.{TrulyUnder, Grade, Mate, Parent}
 use Rattle.saturation.specs.Deciding.{mate_test, parent_test}
 use Rattle.saturation.proofs.Deciding.{named_decides, mate_decides, parent_decides}
+use Rattle.saturation.proofs.Truths.{one_grade}
 use Rattle.board.specs.Layout.{room}
 use Rattle.board.specs.Questions.{Under, answer, unsettled, no_concept, other_terms, job_waits}
 use Rattle.sheet.specs.declared.fault.Fault.{Fault}
+use Rattle.listing.specs.declared.page.Row.{Row}
+use Rattle.listing.specs.Listings.{Listed, Precedes, Listing}
 use Rattle.cases.specs.Rounds.{has, closed, rounds}
 use Rattle.cases.specs.Sheets.{reading, stated}
-use Rattle.cases.specs.Expectations.{kind_of, Expectation, grade, listing, steps, mates, parents, words, unknown, Grade, Listing, Met}
+use Rattle.cases.specs.Expectations.{KindName, Plain, Releases, Views, kind_of, Expectation, grade, listing, steps, mates, parents, words, unknown, Met}
 use Rattle.cases.specs.Cases.{Case, Holds, cases, WorkedCasesHold}
 use Rattle.cases.proofs.Rounds.{rounds_derive, rounds_tell}
-use Rattle.cases.proofs.Tests.{all_of, all_at, all_of_lem, agree, agree_true}
+use Rattle.cases.proofs.Tests.{all_of, all_at, agree, agree_true}
 use Rattle.cases.proofs.Formed.{formed, formed_well}
-use Rattle.cases.proofs.Answers.{lists, lists_true}
+use Rattle.cases.proofs.Answers.{ascending, ascending_at, lists, lists_true}
 use Rattle.cases.proofs.Steps.{pairs, counts, steps_true}
 
 -- which codes hold at a point
@@ -43,19 +47,25 @@ at k p code = k.holds code p
 abbrev grade_test : Kind → (ℕ → List Fact) → ℕ → ℕ → ℕ → Bool
 grade_test k facts a d code = ltb code k.codes && every k.points (λ p. agree (k.holds code p) (has (facts p) (under a d)))
 
-abbrev line_test : Vocabulary → Kind → (ℕ → List Fact) → ℕ × ℕ × ℕ → Bool
-line_test v k facts l = is_named v l.0 && (is_named v l.1 && (not (eqb l.0 l.1) && (not (eqb l.2 k.none) && grade_test k facts l.0 l.1 l.2)))
+abbrev row_test : Vocabulary → Kind → (ℕ → List Fact) → Row → Bool
+row_test v k facts r = is_named v r.sub && (is_named v r.sup && (not (eqb r.sub r.sup) && (not (eqb r.code k.none) && grade_test k facts r.sub r.sup r.code)))
 
--- no line names the two
-abbrev unlisted : List (ℕ × ℕ × ℕ) → ℕ → ℕ → Bool
-unlisted lines a d = all_of (λ (l : ℕ × ℕ × ℕ). not (eqb l.0 a && eqb l.1 d)) lines
+abbrev precedes_test : Row → Row → Bool
+precedes_test r s = ltb r.sub s.sub || (eqb r.sub s.sub && ltb r.sup s.sup)
 
-abbrev other_test : Vocabulary → Kind → (ℕ → List Fact) → List (ℕ × ℕ × ℕ) → ℕ → ℕ → Bool
-other_test v k facts lines a d = if_then (is_named v a && (is_named v d && (not (eqb a d) && unlisted lines a d))) (grade_test k facts a d k.none)
+-- no row is of the two
+abbrev unlisted : List Row → ℕ → ℕ → Bool
+unlisted rows a d = all_of (λ (r : Row). not (eqb r.sub a && eqb r.sup d)) rows
+
+abbrev other_test : Vocabulary → Kind → (ℕ → List Fact) → List Row → ℕ → ℕ → Bool
+other_test v k facts rows a d = if_then (is_named v a && (is_named v d && (not (eqb a d) && unlisted rows a d))) (grade_test k facts a d k.none)
+
+abbrev listing_test : Vocabulary → Kind → (ℕ → List Fact) → List Row → Bool
+listing_test v k facts rows = ascending precedes_test rows && (all_of (row_test v k facts) rows && every (length v.concepts) (λ a. every (length v.concepts) (other_test v k facts rows a)))
 
 abbrev met_test : Vocabulary → Kind → (ℕ → List Fact) → Expectation → Bool
 met_test v k facts (grade a d code) = is_named v a && (ltb d (length v.concepts) && grade_test k facts a d code)
-met_test v k facts (listing lines) = all_of (line_test v k facts) lines && every (length v.concepts) (λ a. every (length v.concepts) (other_test v k facts lines a))
+met_test v k facts (listing rows) = listing_test v k facts rows
 met_test v k facts (steps n) = counts n (pairs v k facts)
 met_test v k facts (mates a p xs) = is_named v a && (ltb p k.points && lists (length v.concepts) (mate_test v (λ c d. has (facts p) (under c d)) a) xs)
 met_test v k facts (parents a p xs) = is_named v a && (ltb p k.points && lists (length v.concepts) (parent_test (length v.concepts) v (λ c d. has (facts p) (under c d)) a) xs)
@@ -97,11 +107,11 @@ passes c = read_test (length c.sheet) (reading c.sheet) && contents_test (kind_o
 -- what is no named concept is not answered for
 unknown_true : (v : Vocabulary) (a : ℕ) → (Named v a → ⊥) → (b : Board) → Quiet v b → (d : ℕ) (r : Result ℕ Rejection) → Under v (length v.concepts) v.roles b a d r → r ≡ Err NoSuchConcept
 unknown_true v a n b q d r (answer s i l) = absurd (n i)
-unknown_true v a n b q d r (unsettled (other_terms h)) = absurd (h (refl, refl))
+unknown_true v a n b q d r (unsettled (other_terms h)) = absurd (h (record { concepts = refl; roles = refl }))
 unknown_true v a n b q d r (unsettled (job_waits s h)) = absurd (h q)
 unknown_true v a n b q d r (no_concept s h) = refl
 
-module _ (v : Vocabulary) (wf : WellFormed v) (k : Kind) (facts : ℕ → List Fact)
+module _ (v : Vocabulary) (wf : WellFormed v) (k : Kind) (lawful : Lawful k) (facts : ℕ → List Fact)
     (derives : (p : ℕ) → p < k.points → (f : Fact) → Decides (has (facts p) f) (Derivable v (at k p) f))
     (tells : (p : ℕ) → p < k.points → (a d : ℕ) → Named v a → d < length v.concepts → Decides (has (facts p) (under a d)) (TrulyUnder v k p a d)) where
   grade_true : (a d code : ℕ) → Named v a → d < length v.concepts → grade_test k facts a d code ≡ true → Grade v k a d code
@@ -109,37 +119,73 @@ module _ (v : Vocabulary) (wf : WellFormed v) (k : Kind) (facts : ℕ → List F
       let t = and_parts (ltb code k.codes) (every k.points (λ p. agree (k.holds code p) (has (facts p) (under a d)))) h in
       record {
         is_code = ltb-true code k.codes t.0;
-        points = λ p o.
+        truthful = λ p o.
             Decides-at (k.holds code p) (has (facts p) (under a d))
             (agree_true (k.holds code p) (has (facts p) (under a d)) (every_at k.points (λ p. agree (k.holds code p) (has (facts p) (under a d))) t.1 p o)) (tells p o a d i l);
       }
 
-  line_true : (l : ℕ × ℕ × ℕ) → line_test v k facts l ≡ true → Named v l.0 × Named v l.1 × (l.0 ≡ l.1 → ⊥) × (l.2 ≡ k.none → ⊥) × Grade v k l.0 l.1 l.2
-  line_true l h =
-      let t₁ = and_parts (is_named v l.0) _ h in
-      let t₂ = and_parts (is_named v l.1) _ t₁.1 in
-      let t₃ = and_parts (not (eqb l.0 l.1)) _ t₂.1 in
-      let t₄ = and_parts (not (eqb l.2 k.none)) (grade_test k facts l.0 l.1 l.2) t₃.1 in
-      let i = (named_decides v l.0).0 t₁.0 in
-      let j = (named_decides v l.1).0 t₂.0 in
-      (i, j, (Decides-not _ (Decides-eqb l.0 l.1)).0 t₃.0, (Decides-not _ (Decides-eqb l.2 k.none)).0 t₄.0, grade_true l.0 l.1 l.2 i j.0 t₄.1)
-
-  unlisted_of : (lines : List (ℕ × ℕ × ℕ)) (a d : ℕ) → ((l : ℕ × ℕ × ℕ) → Memᴰ l lines → (l.0 ≡ a) × (l.1 ≡ d) → ⊥) → unlisted lines a d ≡ true
-  unlisted_of lines a d h =
-      all_of_lem (λ (l : ℕ × ℕ × ℕ). not (eqb l.0 a && eqb l.1 d)) lines (λ l m. (Decides-not _ (Decides-and _ _ (Decides-eqb l.0 a) (Decides-eqb l.1 d))).1 (h l m))
-
-  listing_true : (lines : List (ℕ × ℕ × ℕ)) → met_test v k facts (listing lines) ≡ true → Listing v k lines
-  listing_true lines h =
-      let n = length v.concepts in
-      let t = and_parts (all_of (line_test v k facts) lines) (every n (λ a. every n (other_test v k facts lines a))) h in
+  row_true : (r : Row) → row_test v k facts r ≡ true → Listed v k r
+  row_true r h =
+      let t₁ = and_parts (is_named v r.sub) _ h in
+      let t₂ = and_parts (is_named v r.sup) _ t₁.1 in
+      let t₃ = and_parts (not (eqb r.sub r.sup)) _ t₂.1 in
+      let t₄ = and_parts (not (eqb r.code k.none)) (grade_test k facts r.sub r.sup r.code) t₃.1 in
+      let i = (named_decides v r.sub).0 t₁.0 in
+      let j = (named_decides v r.sup).0 t₂.0 in
       record {
-        listed = λ l m. line_true l (all_at (line_test v k facts) lines t.0 l m);
-        others = λ a d i j ne no_line.
-            let other = every_at n (other_test v k facts lines a) (every_at n (λ a. every n (other_test v k facts lines a)) t.1 a i.0) d j.0 in
-            grade_true a d k.none i j.0 (if_at _ (grade_test k facts a d k.none) other
-            (and_from _ _ ((named_decides v a).1 i) (and_from _ _ ((named_decides v d).1 j)
-            (and_from _ _ ((Decides-not _ (Decides-eqb a d)).1 ne) (unlisted_of lines a d no_line)))));
+        sub_named = i;
+        sup_named = j;
+        different = (Decides-not _ (Decides-eqb r.sub r.sup)).0 t₃.0;
+        some = (Decides-not _ (Decides-eqb r.code k.none)).0 t₄.0;
+        grade = grade_true r.sub r.sup r.code i j.0 t₄.1;
       }
+
+  -- two rows of the same concepts are one
+  one_row : (r s : Row) → Listed v k r → Listed v k s → (s.sub ≡ r.sub) × (s.sup ≡ r.sup) → r ≡ s
+  one_row r s a b e =
+      let code : r.code ≡ s.code = one_grade v k lawful a.grade (subst₂ (λ (c d : ℕ). Grade v k c d s.code) e.0 e.1 b.grade) in
+      λ i. record { sub = sym e.0 i; sup = sym e.1 i; code = code i }
+
+  -- what is listed has its row, unless there is none of its concepts
+  row_there : (rows : List Row) → ((s : Row) → Memᴰ s rows → Listed v k s) → (r : Row) → Listed v k r → (unlisted rows r.sub r.sup ≡ true → ⊥) → Memᴰ r rows
+  row_there [] all r d h = absurd (h refl)
+  row_there (s ∷ rows) all r d h = elim (cases_Bool (eqb s.sub r.sub && eqb s.sup r.sup)) [
+    | inl t ↦ Memᴰ.head (one_row r s d (all s (Memᴰ.head refl)) ((Decides-and _ _ (Decides-eqb s.sub r.sub) (Decides-eqb s.sup r.sup)).0 t))
+    | inr f ↦ Memᴰ.tail (row_there rows (λ x m. all x (Memᴰ.tail m)) r d (λ u. h (and_from _ _ (not_from_false _ f) u)))
+  ]
+
+  listing_true : (rows : List Row) → listing_test v k facts rows ≡ true → Listing v k rows
+  listing_true rows h = record {
+    ascending = ascending_at precedes_test Precedes precedes rows t.0;
+    each = each;
+    every = λ r d. row_there rows each r d (λ u. d.some (one_grade v k lawful d.grade (other r.sub r.sup d.sub_named d.sup_named d.different u)));
+  }
+    where
+      n : ℕ
+      n = length v.concepts
+
+      t : (ascending precedes_test rows ≡ true) × ((all_of (row_test v k facts) rows && every n (λ a. every n (other_test v k facts rows a))) ≡ true)
+      t = and_parts (ascending precedes_test rows) _ h
+
+      u : (all_of (row_test v k facts) rows ≡ true) × (every n (λ a. every n (other_test v k facts rows a)) ≡ true)
+      u = and_parts (all_of (row_test v k facts) rows) _ t.1
+
+      precedes : (r s : Row) → precedes_test r s ≡ true → Precedes r s
+      precedes r s e = elim (or_cases (ltb r.sub s.sub) _ e) [
+        | inl l ↦ inl (ltb-true r.sub s.sub l)
+        | inr b ↦ let w = and_parts (eqb r.sub s.sub) (ltb r.sup s.sup) b in inr (eqb-true r.sub s.sub w.0, ltb-true r.sup s.sup w.1)
+      ]
+
+      each : (r : Row) → Memᴰ r rows → Listed v k r
+      each r m = row_true r (all_at (row_test v k facts) rows u.0 r m)
+
+      -- any other two have "none"
+      other : (a d : ℕ) → Named v a → Named v d → (a ≡ d → ⊥) → unlisted rows a d ≡ true → Grade v k a d k.none
+      other a d i j ne free =
+          let test = every_at n (other_test v k facts rows a) (every_at n (λ a. every n (other_test v k facts rows a)) u.1 a i.0) d j.0 in
+          grade_true a d k.none i j.0 (if_at _ (grade_test k facts a d k.none) test
+          (and_from _ _ ((named_decides v a).1 i) (and_from _ _ ((named_decides v d).1 j)
+          (and_from _ _ ((Decides-not _ (Decides-eqb a d)).1 ne) free))))
 
   met_true : (e : Expectation) → met_test v k facts e ≡ true → Met v k e
   met_true (grade a d code) h =
@@ -148,7 +194,7 @@ module _ (v : Vocabulary) (wf : WellFormed v) (k : Kind) (facts : ℕ → List F
       let i = (named_decides v a).0 t.0 in
       let l = ltb-true d (length v.concepts) u.0 in
       (i, l, grade_true a d code i l u.1)
-  met_true (listing lines) h = listing_true lines h
+  met_true (listing rows) h = listing_true rows h
   met_true (steps n) h = steps_true v wf k facts derives n h
   met_true (mates a p xs) h =
       let n = length v.concepts in
@@ -173,8 +219,8 @@ module _ (v : Vocabulary) (wf : WellFormed v) (k : Kind) (facts : ℕ → List F
 table_at : (v : Vocabulary) (k : Kind) (p : ℕ) → p < k.points → get_or (tables v k) p [] ≡ rounds v (at k p) enough []
 table_at v k p l = get_or-map-range_with_len (λ p. rounds v (at k p) enough []) 0 k.points p p [] l (omega arith)
 
-tables_true : (v : Vocabulary) → WellFormed v → (k : Kind) (es : List Expectation) → tables_test v k es (tables v k) ≡ true → (e : Expectation) → Memᴰ e es → Met v k e
-tables_true v wf k es h e m = met_true v wf k facts derives tells e (all_at (met_test v k facts) es t.1 e m)
+tables_true : (v : Vocabulary) → WellFormed v → (k : Kind) → Lawful k → (es : List Expectation) → tables_test v k es (tables v k) ≡ true → (e : Expectation) → Memᴰ e es → Met v k e
+tables_true v wf k lawful es h e m = met_true v wf k lawful facts derives tells e (all_at (met_test v k facts) es t.1 e m)
   where
     facts : ℕ → List Fact
     facts p = get_or (tables v k) p []
@@ -194,6 +240,11 @@ tables_true v wf k es h e m = met_true v wf k facts derives tells e (all_at (met
     tells p l a d i j =
         subst (λ (fs : List Fact). Decides (has fs (under a d)) (TrulyUnder v k p a d)) (sym (table_at v k p l)) (rounds_tell v wf (at k p) enough (full p l) a d i j)
 
+kind_lawful : (n : KindName) → Lawful (kind_of n)
+kind_lawful Plain = plain_lawful
+kind_lawful Releases = releases_lawful
+kind_lawful Views = views_lawful
+
 passed : (c : Case) → passes c ≡ true → Holds c
 passed c h =
     let k = kind_of c.kind in
@@ -206,7 +257,7 @@ passed c h =
       read = read_true (length c.sheet) (reading c.sheet) r.0;
       well_formed = wf;
       codes = λ i m. ltb-true i.code k.codes (all_at (λ (i : Inclusion). ltb i.code k.codes) s.inclusions u.0 i m);
-      met = tables_true (vocabulary_of s) wf k c.expected u.1;
+      met = tables_true (vocabulary_of s) wf k (kind_lawful c.kind) c.expected u.1;
     }
 
 -- the numbers of the cases that do not pass, from n on

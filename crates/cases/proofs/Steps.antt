@@ -13,9 +13,8 @@ use Rattle.reasoning.specs.declared.Job.{Job}
 use Rattle.reasoning.specs.declared.Job.TheVariants.{Own as own, Link as link, Imply as imply}
 use Rattle.reasoning.specs.Derivations.{fact_of, Derivable, JobAt, at_left, at_filler, at_premise}
 use Rattle.reasoning.proofs.Rules.{derivable_within}
-use Rattle.saturation.specs.AnyOrder.{Distinct, Due}
+use Rattle.saturation.specs.AnyOrder.{Distinct, Due, AllDue}
 use Rattle.cases.specs.Rounds.{numbers, each, has, concept}
-use Rattle.cases.specs.Expectations.{Steps}
 use Rattle.cases.proofs.Lists.{numbers_of, numbers_at, each_of, each_at, has_of, has_at}
 use Rattle.cases.proofs.Rounds.{there}
 
@@ -126,7 +125,7 @@ module _ (v : Vocabulary) (wf : WellFormed v) (k : Kind) (facts : ℕ → List F
       (each_of (jobs_at v p) (has_at f (facts p) ((told p d.point f).1 d.derivable))
       (each_of (λ j. (j, p) ∷ []) (job_of d.at.1) (Memᴰ.head refl)))
 
-  pub steps_true : (n : ℕ) → counts n (pairs v k facts) ≡ true → Steps v k n
+  pub steps_true : (n : ℕ) → counts n (pairs v k facts) ≡ true → AllDue v k n
   steps_true n h =
       let us = pairs v k facts in
       let t = and_parts (eqb n (length us)) (distinct us) h in

@@ -1,8 +1,8 @@
 -- Tests over lists, and of two tests that agree.
-use Rattle.std.proofs.Common.{◌≡◌, Bool, true, false, not, ◌&&◌, List, [], ◌∷◌, sym, refl, subst, inl, inr}
+use Rattle.std.proofs.Common.{◌≡◌, Bool, true, false, not, ◌&&◌, List, [], ◌∷◌, sym, subst, inl, inr}
 use mathlib.Core.List.Memᴰ
 use mathlib.Core.List.{Memᴰ}
-use Rattle.std.proofs.lemmas.Bool.{and_parts, and_from, not-true}
+use Rattle.std.proofs.lemmas.Bool.{and_parts, not-true}
 
 -- the test passes at each entry
 abbrev pub all_of : {X : Type 0} → (X → Bool) → List X → Bool
@@ -14,10 +14,6 @@ all_at p [] h x m = absurd (Memᴰ.not-nil m)
 all_at p (y ∷ ys) h x m =
     let t = and_parts (p y) (all_of p ys) h in
     elim (Memᴰ.cases_cons m) [ inl e ↦ subst (λ z. p z ≡ true) (sym e) t.0 | inr k ↦ all_at p ys t.1 x k ]
-
-pub all_of_lem : {X : Type 0} (p : X → Bool) (xs : List X) → ((x : X) → Memᴰ x xs → p x ≡ true) → all_of p xs ≡ true
-all_of_lem p [] h = refl
-all_of_lem p (x ∷ xs) h = and_from (p x) (all_of p xs) (h x (Memᴰ.head refl)) (all_of_lem p xs (λ y m. h y (Memᴰ.tail m)))
 
 -- two tests have one answer
 abbrev pub agree : Bool → Bool → Bool

@@ -6,7 +6,7 @@ use Rattle.terms.specs.declared.records.Inclusion.{Inclusion}
 use Rattle.terms.specs.Contents.{vocabulary_of}
 use Rattle.terms.specs.Vocabularies.{Vocabulary, WellFormed}
 use Rattle.cases.specs.Sheets.{reading, stated}
-use Rattle.cases.specs.Expectations.{KindName, Plain, Releases, Views, kind_of, Expectation, grade, listing, steps, mates, parents, words, unknown, Met}
+use Rattle.cases.specs.Expectations.{KindName, Plain, Releases, Views, kind_of, Expectation, row, grade, listing, steps, mates, parents, words, unknown, Met}
 
 -- a kind of grade, a sheet, and what is expected of it
 pub record Case : Type 0 where
@@ -33,7 +33,7 @@ pub record Holds (c : Case) : Type 0 where
 abbrev pub cases : List Case
 cases =
     -- a part of a part is a part, from the release on from which all that says so holds
-    given Releases ("R" ∷ "R" ∷ "I     0     1" ∷ "P     1" ∷ "A" ∷ "A" ∷ "A" ∷ "A" ∷ "E     0     1" ∷ "E     1     2" ∷ "S     0     4     0" ∷ "S     1     5     2" ∷ "S     5     3     1" ∷ []) (listing ((0, 3, 2) ∷ (1, 3, 2) ∷ []) ∷ [])
+    given Releases ("R" ∷ "R" ∷ "I     0     1" ∷ "P     1" ∷ "A" ∷ "A" ∷ "A" ∷ "A" ∷ "E     0     1" ∷ "E     1     2" ∷ "S     0     4     0" ∷ "S     1     5     2" ∷ "S     5     3     1" ∷ []) (listing (row 0 3 2 ∷ row 1 3 2 ∷ []) ∷ [])
     -- but not by a role that is not transitive
     ∷ given Releases ("R" ∷ "R" ∷ "I     0     1" ∷ "A" ∷ "A" ∷ "A" ∷ "A" ∷ "E     0     1" ∷ "E     1     2" ∷ "S     0     4     0" ∷ "S     1     5     2" ∷ "S     5     3     1" ∷ []) (grade 0 3 64 ∷ [])
     -- two start facts, and one that an inclusion gives
@@ -46,7 +46,7 @@ cases =
     -- two inclusions that share one view
     ∷ given Views ("A" ∷ "A" ∷ "A" ∷ "S     0     1     5" ∷ "S     1     2     6" ∷ []) (grade 0 2 4 ∷ [])
     -- a conjunction lies inside its operands, and everything inside top
-    ∷ given Plain ("A" ∷ "A" ∷ "A" ∷ "N     1     2" ∷ "T" ∷ "S     0     3     1" ∷ []) (listing ((0, 1, 1) ∷ (0, 2, 1) ∷ []) ∷ grade 1 4 1 ∷ [])
+    ∷ given Plain ("A" ∷ "A" ∷ "A" ∷ "N     1     2" ∷ "T" ∷ "S     0     3     1" ∷ []) (listing (row 0 1 1 ∷ row 0 2 1 ∷ []) ∷ grade 1 4 1 ∷ [])
     -- what lies between keeps a concept from being a parent
     ∷ given Plain ("A" ∷ "A" ∷ "A" ∷ "S     0     1     1" ∷ "S     1     2     1" ∷ []) (parents 0 0 (1 ∷ []) ∷ mates 0 0 [] ∷ [])
     -- the empty sheet: its board needs no words, nothing is listed, and there is no concept 0 to ask for

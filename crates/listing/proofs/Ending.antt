@@ -1,23 +1,24 @@
 -- A fresh board that is run has no job waiting, and what it then lists is the truth.
-use Rattle.std.proofs.Common.{◌≡◌, ℕ, ◌*◌, ◌<◌, ◌≤◌, Bool, true, false, List, [], length, Some, Ok, Err, Result, sym, refl, ap, ◌∙◌, subst, inl, inr, arith}
+use Rattle.std.proofs.Common.{◌≡◌, ℕ, ◌*◌, ◌<◌, ◌≤◌, Bool, false, List, [], length, Some, Ok, Err, Result, sym, refl, ap, ◌∙◌, inl, inr, arith}
 use Rattle.std.proofs.lemmas.Bool.{both_ways}
 use Rattle.std.proofs.lemmas.Nat.{mul-le}
 use Rattle.rejections.specs.declared.Rejection.{Rejection}
-use Rattle.lemmas.proofs.Tests.{same_test}
 use Rattle.grades.specs.Kinds.{Kind, Lawful}
 use Rattle.piles.specs.Sets.{Numbers}
-use Rattle.terms.specs.Vocabularies.{Vocabulary, WellFormed}
+use Rattle.terms.specs.Vocabularies.{Vocabulary, Named, WellFormed}
 use Rattle.terms.proofs.Namings.{is_named_lem}
 use Rattle.reasoning.specs.declared.Fact.TheVariants.{Under as under}
 use Rattle.saturation.specs.Boards.{Board, Quiet}
 use Rattle.saturation.specs.Histories.{Event, nothing, History}
 use Rattle.saturation.specs.AnyOrder.{Promise}
+use Rattle.saturation.specs.Answers.{Grade}
 use Rattle.saturation.proofs.Numbers.{pairs_small}
 use Rattle.saturation.proofs.Finish.{runs_lead, runs_finish}
 use Rattle.saturation.proofs.OneAnswer.{any_order}
+use Rattle.saturation.proofs.Truths.{one_grade}
 use Rattle.board.specs.Stages.{OpenBoard}
 use Rattle.board.specs.declared.board.running.Ran.{Ran}
-use Rattle.board.specs.Views.{board_of, moment_of}
+use Rattle.board.specs.Views.{content_of, moment_of}
 use Rattle.board.specs.Layout.{room}
 use Rattle.board.specs.Refusals.{MakeRejected, Coded}
 use Rattle.board.specs.Calls.{MadeBy, RanBy}
@@ -33,8 +34,8 @@ use Rattle.listing.proofs.Asking.{lists, lists_what}
 module _ (k : Kind) (lawful : Lawful k) (v : Vocabulary) (wf : WellFormed v) where
   -- a run of a fresh board ends with no job waiting, and the board has a history
   pub run_ends : {X Y : Type 0} (numbers : Y → Numbers) (words : List ℕ) (a : OpenBoard X) (p : Y) (b : OpenBoard X) (q : Y) (r : Result Ran Rejection) → MadeBy v k numbers words a p → a.counts.concepts ≤ (numbers p).size →
-      RanBy v k numbers 18446744073709551615 a p b q r → Quiet v (board_of b) × ((es : List Event) × History v k es (moment_of numbers b q))
-  run_ends numbers words a p b q (Err e) made l ran = absurd (unready v a.counts.concepts a.counts.roles (numbers p).size ran.0 (made.concepts, made.roles) l)
+      RanBy v k numbers 18446744073709551615 a p b q r → Quiet v (content_of b) × ((es : List Event) × History v k es (moment_of numbers b q))
+  run_ends numbers words a p b q (Err e) made l ran = absurd (unready v a.counts.concepts a.counts.roles (numbers p).size ran.0 made.counts l)
   run_ends numbers words a p b q (Ok r) made l ran =
       let t = ran.1 made.sane in
       let few = pairs_small v k wf lawful in
@@ -52,6 +53,9 @@ module _ (k : Kind) (lawful : Lawful k) (v : Vocabulary) (wf : WellFormed v) whe
       promise : Promise v k es (record { board = b; pile = held })
       promise = (any_order k lawful v wf).0 es (record { board = b; pile = held }) h
 
+      found : (a d : ℕ) → Named v a → d < length v.concepts → Grade v k a d (b.found (under a d))
+      found a d i l = record { is_code = promise.sane.found (under a d) (i.0, l); truthful = promise.true_in_models q a d i l }
+
       to : (r : Row) → r.sub < n → r.sup < n → code_to_list v k b r.sub r.sup ≡ Some r.code → Listed v k r
       to r l m g =
           let w = lists_what v k b r.sub r.sup r.code g in
@@ -59,18 +63,15 @@ module _ (k : Kind) (lawful : Lawful k) (v : Vocabulary) (wf : WellFormed v) whe
             sub_named = w.1;
             sup_named = w.2;
             different = w.0;
-            code = rw w.4 (promise.sane.found (under r.sub r.sup) (w.1.0, w.2.0));
             some = λ z. w.3 (sym w.4 ∙ z);
-            points = λ p o. let t = promise.true_in_models q r.sub r.sup p w.1 w.2.0 o in ((λ x. t.0 (subst (λ (c : ℕ). k.holds c p ≡ true) w.4 x)), (λ x. subst (λ (c : ℕ). k.holds c p ≡ true) (sym w.4) (t.1 x)));
+            grade = rw w.4 (found r.sub r.sup w.1 w.2.0);
           }
 
       from : (r : Row) → Listed v k r → (r.sub < n) × (r.sup < n) × (code_to_list v k b r.sub r.sup ≡ Some r.code)
       from r d =
           let i = d.sub_named in
           let j = d.sup_named in
-          let same : b.found (under r.sub r.sup) ≡ r.code =
-          lawful.same (b.found (under r.sub r.sup)) r.code (promise.sane.found (under r.sub r.sup) (i.0, j.0)) d.code (λ p o.
-          let t = promise.true_in_models q r.sub r.sup p i j.0 o in let u = d.points p o in same_test _ _ (λ x. u.1 (t.0 x)) (λ x. t.1 (u.0 x))) in
+          let same : b.found (under r.sub r.sup) ≡ r.code = one_grade v k lawful (found r.sub r.sup i j.0) d.grade in
           (omega (arith, i.0), omega (arith, j.0), lists v k b r.sub r.sup d.different (is_named_lem v r.sub i) (is_named_lem v r.sup j) (λ z. d.some (sym same ∙ z)) ∙ ap Some same)
 
 -- a page has room for the rows of 40 concepts

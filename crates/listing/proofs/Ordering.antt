@@ -3,22 +3,18 @@ use Rattle.std.proofs.Common.{◌≡◌, ℕ, zero, suc, ◌<◌, List, [], ◌�
 use mathlib.Core.List.Memᴰ
 use mathlib.Core.List.{Memᴰ}
 use Rattle.std.proofs.lemmas.Bool.{cases_eq}
+use Rattle.saturation.specs.Answers.{Ascending, ListBy}
+use Rattle.saturation.proofs.Lists.{ascending_behind}
 use Rattle.listing.specs.declared.page.Row.{Row}
 use Rattle.listing.specs.Rows.{row_of, rows_up_to, all_rows}
-use Rattle.listing.specs.Listings.{Precedes, InOrder, RowsOf}
-
--- two lists in order, the first before the second
-order_behind : (xs ys : List Row) → InOrder xs → InOrder ys → ((r s : Row) → Memᴰ r xs → Memᴰ s ys → Precedes r s) → InOrder (xs ++ ys)
-order_behind [] ys a b h = b
-order_behind (x ∷ xs) ys a b h =
-    ((λ s m. elim (Memᴰ.append_cases xs m) [ inl t ↦ a.0 s t | inr t ↦ h x s (Memᴰ.head refl) t ]), order_behind xs ys a.1 b (λ r s m n. h r s (Memᴰ.tail m) n))
+use Rattle.listing.specs.Listings.{Precedes}
 
 -- the one row of a pair
 row_in : (a d : ℕ) (o : Option ℕ) (r : Row) → Memᴰ r (row_of a d o) → (r.sub ≡ a) × (r.sup ≡ d) × (o ≡ Some r.code)
 row_in a d None r m = absurd (Memᴰ.not-nil m)
 row_in a d (Some g) r m = let e = Memᴰ.eq_of_singleton m in (ap (λ (s : Row). s.sub) e, ap (λ (s : Row). s.sup) e, ap (λ (s : Row). Some s.code) (sym e))
 
-row_order : (a d : ℕ) (o : Option ℕ) → InOrder (row_of a d o)
+row_order : (a d : ℕ) (o : Option ℕ) → Ascending Precedes (row_of a d o)
 row_order a d None = tt
 row_order a d (Some g) = ((λ s m. absurd (Memᴰ.not-nil m)), tt)
 
@@ -30,10 +26,10 @@ module _ (grade : ℕ → ℕ → Option ℕ) where
     | inr t ↦ let h = row_in a n (grade a n) r t in let e = h.1 in (h.0, omega arith, ap (grade a) e ∙ h.2)
   ]
 
-  rows_order : (a n : ℕ) → InOrder (rows_up_to grade a n)
+  rows_order : (a n : ℕ) → Ascending Precedes (rows_up_to grade a n)
   rows_order a zero = tt
   rows_order a (suc n) =
-      order_behind (rows_up_to grade a n) (row_of a n (grade a n)) (rows_order a n) (row_order a n (grade a n))
+      ascending_behind Precedes (rows_up_to grade a n) (row_of a n (grade a n)) (rows_order a n) (row_order a n (grade a n))
       (λ r s m t. let h = rows_in a n r m in let i = row_in a n (grade a n) s t in let e = i.1 in let l = h.1 in inr (h.0 ∙ sym i.0, omega arith))
 
   in_rows : (a n : ℕ) (r : Row) → r.sub ≡ a → r.sup < n → grade a r.sup ≡ Some r.code → Memᴰ r (rows_up_to grade a n)
@@ -50,10 +46,10 @@ module _ (grade : ℕ → ℕ → Option ℕ) where
     | inr t ↦ let h = rows_in i n r t in let e = h.0 in (omega arith, h.1, ap (λ (a : ℕ). grade a r.sup) e ∙ h.2)
   ]
 
-  all_order : (n i : ℕ) → InOrder (all_rows grade n i)
+  all_order : (n i : ℕ) → Ascending Precedes (all_rows grade n i)
   all_order n zero = tt
   all_order n (suc i) =
-      order_behind (all_rows grade n i) (rows_up_to grade i n) (all_order n i) (rows_order i n)
+      ascending_behind Precedes (all_rows grade n i) (rows_up_to grade i n) (all_order n i) (rows_order i n)
       (λ r s m t. let h = all_in n i r m in let j = rows_in i n s t in let l = h.0 in let e = j.0 in inl (omega arith))
 
   in_all : (n i : ℕ) (r : Row) → r.sub < i → r.sup < n → grade r.sub r.sup ≡ Some r.code → Memᴰ r (all_rows grade n i)
@@ -65,9 +61,9 @@ module _ (grade : ℕ → ℕ → Option ℕ) where
 
   -- the rows of n concepts are those with the property, where that is to have a code
   pub all_rows_lem : (n : ℕ) (P : Row → Type 0) → ((r : Row) → r.sub < n → r.sup < n → grade r.sub r.sup ≡ Some r.code → P r)
-      → ((r : Row) → P r → (r.sub < n) × (r.sup < n) × (grade r.sub r.sup ≡ Some r.code)) → RowsOf P (all_rows grade n n)
+      → ((r : Row) → P r → (r.sub < n) × (r.sup < n) × (grade r.sub r.sup ≡ Some r.code)) → ListBy Precedes P (all_rows grade n n)
   all_rows_lem n P to from = record {
-    in_order = all_order n n;
+    ascending = all_order n n;
     each = λ r m. let h = all_in n n r m in to r h.0 h.1 h.2;
     every = λ r p. let h = from r p in in_all n n r h.0 h.1 h.2;
   }

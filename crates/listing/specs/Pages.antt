@@ -1,5 +1,6 @@
 -- The bytes of a listing.
 use Rattle.std.specs.Prelude.{◌≡◌, ℕ, ◌+◌, ◌≤◌, List, [], ◌∷◌, ◌++◌, length, take, drop}
+use Rattle.terms.specs.Lent.{onto}
 use Rattle.sheet.specs.Columns.{six_columns}
 use Rattle.listing.specs.declared.page.Row.{Row}
 
@@ -13,7 +14,7 @@ row_bytes r = three_columns r.sub r.sup r.code
 
 -- the page with bytes in the place of those from a place on
 abbrev pub put_at : ℕ → List ℕ → List ℕ → List ℕ
-put_at at bytes page = take at page ++ (bytes ++ drop (at + length bytes) page)
+put_at at bytes page = take at page ++ onto bytes (drop at page)
 
 -- the lines of the rows, one after the other
 abbrev pub page_of : List Row → List ℕ

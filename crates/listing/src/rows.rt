@@ -1,7 +1,7 @@
 //! The rows of a listing, written into a page.
 ghost use Rattle.std.specs.Prelude.{◌≡◌, ◌+◌, ◌*◌, ◌≤◌, length};
 ghost use Rattle.terms.specs.Views.{terms_of};
-ghost use Rattle.board.specs.Views.{closed_of};
+ghost use Rattle.board.specs.Views.{content_of};
 ghost use Rattle.board.specs.Questions.{Settled};
 ghost use Rattle.listing.specs.Pages.{Wrote};
 ghost use Rattle.listing.specs.Rows.{rows_up_to, all_rows, code_to_list};
@@ -16,13 +16,13 @@ use terms::terms::Terms;
 pub(crate) struct SettledBoard<'b, 'w, 't, 'l, K> {
     board: &'b ClosedBoard<'w, K>,
     terms: &'t Terms<'l>,
-    ghost settled: { Settled (terms_of terms.now) board.now.counts.concepts board.now.counts.roles (closed_of board.now) },
+    ghost settled: { Settled (terms_of terms.now) board.now.counts.concepts board.now.counts.roles (content_of board.now) },
 }
 
 impl<'b, 'w, 't, 'l, K: GradeKind> SettledBoard<'b, 'w, 't, 'l, K> {
     /// The answers of a board about the terms.
     pub(crate) fn new(board: &'b ClosedBoard<'w, K>, terms: &'t Terms<'l>) -> Self
-        requires { Settled (terms_of terms.now) board.now.counts.concepts board.now.counts.roles (closed_of board.now) }
+        requires { Settled (terms_of terms.now) board.now.counts.concepts board.now.counts.roles (content_of board.now) }
         ensures board { result.board.now ≡ board.now }
         ensures terms { result.terms.now ≡ terms.now }
     {
@@ -31,7 +31,7 @@ impl<'b, 'w, 't, 'l, K: GradeKind> SettledBoard<'b, 'w, 't, 'l, K> {
 
     /// The code to list for two concepts, if there is one: they are different named concepts, and the grade is not "none".
     fn listed(&self, a: u16, d: u16) -> Option<u16>
-        ensures { result ≡ code_to_list (terms_of self.now.terms.now) K.GradeKind.kind (closed_of self.now.board.now) a d }
+        ensures { result ≡ code_to_list (terms_of self.now.terms.now) K.GradeKind.kind (content_of self.now.board.now) a d }
     {
         if a == d || !self.terms.is_named(a) || !self.terms.is_named(d) {
             return None;
@@ -43,7 +43,7 @@ impl<'b, 'w, 't, 'l, K: GradeKind> SettledBoard<'b, 'w, 't, 'l, K> {
     /// Writes the rows of the concept `a` and those below `concepts`.
     fn write_rows(&self, a: u16, concepts: u16, page: &mut Page)
         requires { page.old.filled + 19 * concepts ≤ length page.old.bytes.now }
-        ensures wrote { Wrote (rows_up_to (code_to_list (terms_of self.now.terms.now) K.GradeKind.kind (closed_of self.now.board.now)) a concepts) page.old.filled page.new.filled (19 * concepts) page.old.bytes.now page.new.bytes.now }
+        ensures wrote { Wrote (rows_up_to (code_to_list (terms_of self.now.terms.now) K.GradeKind.kind (content_of self.now.board.now)) a concepts) page.old.filled page.new.filled (19 * concepts) page.old.bytes.now page.new.bytes.now }
         ensures lent { page.new.bytes.ghost_name ≡ page.old.bytes.ghost_name }
     {
         for d in 0..concepts {
@@ -60,7 +60,7 @@ impl<'b, 'w, 't, 'l, K: GradeKind> SettledBoard<'b, 'w, 't, 'l, K> {
     /// Writes the rows of all concepts to the front of the page, and says how many bytes they take.
     pub(crate) fn write_all(&self, concepts: u16, bytes: &mut [u8]) -> usize
         requires { 19 * concepts * concepts ≤ length bytes.old }
-        ensures { Wrote (all_rows (code_to_list (terms_of self.now.terms.now) K.GradeKind.kind (closed_of self.now.board.now)) concepts concepts) 0 result (19 * concepts * concepts) bytes.old bytes.new }
+        ensures { Wrote (all_rows (code_to_list (terms_of self.now.terms.now) K.GradeKind.kind (content_of self.now.board.now)) concepts concepts) 0 result (19 * concepts * concepts) bytes.old bytes.new }
     {
         let mut page = Page::new(bytes);
         for a in 0..concepts {

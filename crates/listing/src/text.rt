@@ -2,7 +2,7 @@
 ghost use Rattle.std.specs.Prelude.{ℕ, ◌≤◌, Bool, List, length, IfOk};
 ghost use Rattle.terms.specs.Views.{terms_of};
 ghost use Rattle.saturation.specs.Histories.{Event, History};
-ghost use Rattle.board.specs.Views.{closed_of};
+ghost use Rattle.board.specs.Views.{content_of};
 ghost use Rattle.board.specs.Refusals.{InOrder};
 ghost use Rattle.board.specs.Questions.{Settled};
 ghost use Rattle.listing.specs.Stories.{ListedOr, Told};
@@ -33,8 +33,8 @@ fn classify<'a, K: GradeKind, P: Pile>(
     kind: K,
 ) -> ClosedBoard<'a, K>
     requires { InOrder (terms_of terms.now) K.GradeKind.kind (length words.old) (P.Pile.numbers pile.old) }
-    ensures settled { Settled (terms_of terms.now) result.counts.concepts result.counts.roles (closed_of result) }
-    ensures history { (es : List Event) × (held : ℕ → Bool) × History (terms_of terms.now) K.GradeKind.kind es (record { board = closed_of result; pile = held }) }
+    ensures settled { Settled (terms_of terms.now) result.counts.concepts result.counts.roles (content_of result) }
+    ensures history { (es : List Event) × (held : ℕ → Bool) × History (terms_of terms.now) K.GradeKind.kind es (record { board = content_of result; pile = held }) }
 {
     let mut board = OpenBoard::make(terms, words, pile, kind);
     let _ = board.run(terms, pile, u64::MAX);

@@ -4,7 +4,7 @@
 ghost use Rattle.std.specs.Prelude.{◌≡◌};
 ghost use Rattle.rejections.specs.Numbers.{number_of};
 
-/// Why a call was rejected. 1 to 6 come from reading, 7 from piles, 8 to 16 from the board, 17 to 20 from questions.
+/// Why a call was rejected. 1 to 6 come from reading, 7 from piles, 8 to 16 from the board, 17 to 20 from questions, and 11 from both.
 #[derive(Clone, Copy, PartialEq, Eq, Debug)]
 pub enum Rejection {
     /// The text's length is no multiple of 20.
@@ -41,7 +41,7 @@ pub enum Rejection {
     NothingWaits = 16,
     /// A job still waits, so the board has no final answer.
     JobWaits = 17,
-    /// There is no such concept, or it is not atomic where it must be.
+    /// There is no such concept, or it is not named, which is atomic, where it must be.
     NoSuchConcept = 18,
     /// The kind of grade lacks the point.
     NoSuchPoint = 19,

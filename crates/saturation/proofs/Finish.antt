@@ -97,19 +97,19 @@ module _ (k : Kind) (lawful : Lawful k) (v : Vocabulary) (wf : WellFormed v) whe
       ]
 
   -- between the turns of a lone run: every lease was lowered, and every lowering rechecked
-  record Rests (es : List Event) (m : Moment) : Type 0 where
+  record Paused (es : List Event) (m : Moment) : Type 0 where
     pub kept : Kept v k es m
     pub balanced : granted es ≡ given_back es
     pub checked : (x : ℕ) → unrechecked x es ≡ false
 
-  not_held : {es : List Event} {m : Moment} → Rests es m → (x : ℕ) → x < length v.concepts → m.board.state x ≡ Held → ⊥
+  not_held : {es : List Event} {m : Moment} → Paused es m → (x : ℕ) → x < length v.concepts → m.board.state x ≡ Held → ⊥
   not_held {es} {m} r x l h =
       let z : held_count (length v.concepts) m.board.state ≡ 0 = let a = r.kept.placed.leases in let b = r.balanced in omega arith in
       let c = count_zero (length v.concepts) m.board.state z x l in
       let d : held_one (m.board.state x) ≡ 1 = ap held_one h in
       omega arith
 
-  not_left : {es : List Event} {m : Moment} → Rests es m → (Quiet v m.board → ⊥) → NothingToTake (length v.concepts) m → ⊥
+  not_left : {es : List Event} {m : Moment} → Paused es m → (Quiet v m.board → ⊥) → NothingToTake (length v.concepts) m → ⊥
   not_left {es} {m} r q (inr t) = let o = r.kept.placed.only_queued t.0 t.1 in t.2 o.0 o.1
   not_left {es} {m} r q (inl empty) = q quiet
     where
@@ -157,8 +157,8 @@ module _ (k : Kind) (lawful : Lawful k) (v : Vocabulary) (wf : WellFormed v) whe
         same = λ y. ap (unrechecked y) one ∙ i.same y;
       }
 
-  runs_out : {n s : ℕ} {o : Outcome} {es fs : List Event} {a b : Moment} → Runs v k n o s es a b → Rests fs a → possible_pairs v k ≤ a.board.steps + n →
-      (o ≡ Finished) × Quiet v b.board × ((gs : List Event) × Rests gs b)
+  runs_out : {n s : ℕ} {o : Outcome} {es fs : List Event} {a b : Moment} → Runs v k n o s es a b → Paused fs a → possible_pairs v k ≤ a.board.steps + n →
+      (o ≡ Finished) × Quiet v b.board × ((gs : List Event) × Paused gs b)
   runs_out {fs = fs} (Runs.finished q) r l = (refl, q, (fs, r))
   runs_out (Runs.spent q) r l = let m = more_to_do r.kept q in absurd (omega arith)
   runs_out (Runs.left q p t u) r l = absurd (not_left r q t)
@@ -182,21 +182,21 @@ module _ (k : Kind) (lawful : Lawful k) (v : Vocabulary) (wf : WellFormed v) whe
       (omega arith)
 
   -- nothing is queued where no job waits, and nothing is held between turns
-  all_idle : {es : List Event} {m : Moment} → Rests es m → Quiet v m.board → (c : ℕ) → c < length v.concepts → m.board.state c ≡ Idle
+  all_idle : {es : List Event} {m : Moment} → Paused es m → Quiet v m.board → (c : ℕ) → c < length v.concepts → m.board.state c ≡ Idle
   all_idle {m = m} r q c l = elim (which (m.board.state c)) [
     | inl e ↦ e
     | inr (inl e) ↦ absurd (r.kept.busy c l e (λ j at. q j c at))
     | inr (inr e) ↦ absurd (not_held r c l e)
   ]
 
-  none_piled : {es : List Event} {m : Moment} → Rests es m → Quiet v m.board → (c : ℕ) → m.pile c ≡ false
+  none_piled : {es : List Event} {m : Moment} → Paused es m → Quiet v m.board → (c : ℕ) → m.pile c ≡ false
   none_piled {m = m} r q c = elim (cases_Bool (m.pile c)) [
     | inl e ↦ let o = r.kept.placed.only_queued c e in absurd (r.kept.busy c o.0 o.1 (λ j at. q j c at))
     | inr e ↦ e
   ]
 
   -- a history at rest
-  at_rest : {es : List Event} {m : Moment} → History v k es m → Rested v es m → Rests es m
+  at_rest : {es : List Event} {m : Moment} → History v k es m → Rested v es m → Paused es m
   at_rest {es} {m} h r = record {
     kept = o;
     balanced = let z = count_none (length v.concepts) m.board.state (λ x l. unheld (m.board.state x) (r.unheld x l)) in let a = o.placed.leases in omega arith;

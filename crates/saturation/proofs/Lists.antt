@@ -1,9 +1,18 @@
--- A list of distinct entries, told apart by numbers below a bound, is no longer than the bound.
-use Rattle.std.proofs.Common.{◌≡◌, ℕ, zero, suc, ◌<◌, ◌≤◌, ◌⊎◌, List, [], ◌∷◌, length, sym, refl, ◌∙◌, subst, inl, inr, arith}
+-- Ascending lists one behind the other; and a list of distinct entries, told apart by numbers below a bound, is no longer than the bound.
+use Rattle.std.proofs.Common.{◌≡◌, ℕ, zero, suc, ◌<◌, ◌≤◌, ◌⊎◌, List, [], ◌∷◌, ◌++◌, length, sym, refl, ◌∙◌, subst, inl, inr, arith}
 use mathlib.Core.List.Memᴰ
 use mathlib.Core.List.{Memᴰ}
 use Rattle.std.proofs.lemmas.Bool.{cases_eq}
 use Rattle.saturation.specs.AnyOrder.{Distinct}
+use Rattle.saturation.specs.Answers.{Ascending}
+
+-- two ascending lists, the entries of the first before those of the second
+pub ascending_behind : {A : Type 0} (R : A → A → Type 0) (xs ys : List A) → Ascending R xs → Ascending R ys → ((x y : A) → Memᴰ x xs → Memᴰ y ys → R x y) → Ascending R (xs ++ ys)
+ascending_behind R [] ys a b h = b
+ascending_behind R (x ∷ xs) ys a b h = (
+  (λ y m. elim (Memᴰ.append_cases xs m) [ inl t ↦ a.0 y t | inr t ↦ h x y (Memᴰ.head refl) t ]),
+  ascending_behind R xs ys a.1 b (λ y z m n. h y z (Memᴰ.tail m) n),
+)
 
 module _ {A : Type 0} (P : A → Type 0) (code : A → ℕ) (apart : (x y : A) → P x → P y → code x ≡ code y → x ≡ y) where
   abbrev Below : ℕ → List A → Type 0

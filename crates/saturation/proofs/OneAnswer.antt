@@ -46,7 +46,7 @@ module _ (k : Kind) (lawful : Lawful k) (v : Vocabulary) (wf : WellFormed v) whe
     nothing_lost = λ j c at w. in_sight c (at_concept v wf at) (o.placed.nothing_lost j c at w);
     queued_in_pile = o.placed.queued_in_pile;
     only_queued = o.placed.only_queued;
-    true_in_models = λ q a d p i l t. (
+    true_in_models = λ q a d i l p t. (
       λ x. sound v (λ code. k.holds code p) a d (o.good.sound (under a d) p (i.0, l) t x),
       λ f. (and_parts (inside v (under a d)) (k.holds (b.found (under a d)) p) (complete v (λ code. k.holds code p) wf (table p) (closed q p t) a d i l f)).1,
     );

@@ -1,8 +1,14 @@
--- Mates and parents on a quiet board are those of all finite models.
-use Rattle.std.proofs.Common.{ℕ, ◌<◌, List}
+-- Grades, mates and parents on a quiet board are those of all finite models.
+use Rattle.std.proofs.Common.{◌≡◌, ℕ, ◌<◌, List}
+use Rattle.std.proofs.lemmas.Bool.Decides.{same_from_decides}
+use Rattle.grades.specs.Kinds.{Kind, Lawful}
 use Rattle.terms.specs.Vocabularies.{Vocabulary, Named}
-use Rattle.saturation.specs.Answers.{FoundUnder, TrulyUnder, Mate, Between, Parent, ListOf, QuietAnswersTrue}
+use Rattle.saturation.specs.Answers.{FoundUnder, TrulyUnder, Grade, Mate, Between, Parent, ListOf, QuietAnswersTrue}
 use Rattle.saturation.proofs.OneAnswer.{any_order}
+
+-- two concepts have one grade
+pub one_grade : (v : Vocabulary) (k : Kind) → Lawful k → {c d g h : ℕ} → Grade v k c d g → Grade v k c d h → g ≡ h
+one_grade v k lawful {g = g} {h = h} a b = lawful.same g h a.is_code b.is_code (λ p l. same_from_decides (k.holds g p) (k.holds h p) (a.truthful p l) (b.truthful p l))
 
 -- two relations that agree between named concepts
 abbrev Agree : Vocabulary → (ℕ → ℕ → Type 0) → (ℕ → ℕ → Type 0) → Type 0
@@ -28,9 +34,9 @@ listed f g l = record { ascending = l.ascending; each = λ x m. f x (l.each x m)
 pub quiet_answers_true : QuietAnswersTrue
 quiet_answers_true k lawful v wf es m h q =
     let t = ((any_order k lawful v wf).0 es m h).true_in_models q in
-    let agree : (p : ℕ) → p < k.points → Agree v (FoundUnder k m.board p) (TrulyUnder v k p) = λ p l a d i j. t a d p i j.0 l in
+    let agree : (p : ℕ) → p < k.points → Agree v (FoundUnder k m.board p) (TrulyUnder v k p) = λ p l a d i j. t a d i j.0 p l in
     record {
-      under_true = λ a d p i l o. t a d p i l o;
+      under_true = t;
       mates_true = λ a p xs i l o. listed (λ x. mate v (agree p l) a x i) (λ x. mate v (flip v (agree p l)) a x i) o;
       parents_true = λ a p xs i l o. listed (λ x. parent v (agree p l) a x i) (λ x. parent v (flip v (agree p l)) a x i) o;
     }

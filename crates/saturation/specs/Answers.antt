@@ -1,5 +1,5 @@
 -- What the questions to a finished board answer, over a relation "lies under" between concepts: the board's own, or that of all finite models.
-use Rattle.std.specs.Prelude.{◌≡◌, ℕ, ◌<◌, ◌≤◌, true, List, [], ◌∷◌, length, ◌≢◌}
+use Rattle.std.specs.Prelude.{◌≡◌, ℕ, ◌<◌, ◌≤◌, true, List, [], ◌∷◌, length, Decides, ◌≢◌}
 use mathlib.Core.List.{Memᴰ}
 use Rattle.grades.specs.Kinds.{Kind, Lawful}
 use Rattle.terms.specs.Vocabularies.{Vocabulary, Named, WellFormed}
@@ -16,6 +16,15 @@ FoundUnder k b p c d = k.holds (b.found (under c d)) p ≡ true
 abbrev pub TrulyUnder : Vocabulary → Kind → ℕ → ℕ → ℕ → Type 0
 TrulyUnder v k p c d = Entails v (λ code. k.holds code p) c d
 
+-- the grade holds a point exactly where c lies under d in every finite model
+abbrev pub Truthful : Vocabulary → Kind → ℕ → ℕ → ℕ → Type 0
+Truthful v k c d g = (p : ℕ) → p < k.points → Decides (k.holds g p) (TrulyUnder v k p c d)
+
+-- the number is a code of the kind, and the truthful grade of c under d
+pub record Grade (v : Vocabulary) (k : Kind) (c d g : ℕ) : Type 0 where
+  pub is_code : g < k.codes
+  pub truthful : Truthful v k c d g
+
 -- b is a mate of a: another named concept, each under the other
 abbrev pub Mate : Vocabulary → (ℕ → ℕ → Type 0) → ℕ → ℕ → Type 0
 Mate v Under a b = Named v b × (b ≢ a) × Under a b × Under b a
@@ -28,20 +37,24 @@ Between v Under a b c = Named v c × Under a c × Under c b × (Under c a → �
 abbrev pub Parent : Vocabulary → (ℕ → ℕ → Type 0) → ℕ → ℕ → Type 0
 Parent v Under a b = Named v b × Under a b × (Under b a → ⊥) × ((c : ℕ) → Mate v Under b c → b ≤ c) × ((c : ℕ) → Between v Under a b c → ⊥)
 
--- each number of the list is smaller than those after it
-abbrev pub Ascending : List ℕ → Type 0
-Ascending [] = Unit {0}
-Ascending (x ∷ xs) = ((y : ℕ) → Memᴰ y xs → x < y) × Ascending xs
+-- each entry of the list precedes those after it
+abbrev pub Ascending : {A : Type 0} → (A → A → Type 0) → List A → Type 0
+Ascending Precedes [] = Unit {0}
+Ascending {A} Precedes (x ∷ xs) = ((y : A) → Memᴰ y xs → Precedes x y) × Ascending Precedes xs
+
+-- the ascending list of exactly the entries with the property
+pub record ListBy {A : Type 0} (Precedes : A → A → Type 0) (P : A → Type 0) (xs : List A) : Type 0 where
+  pub ascending : Ascending Precedes xs
+  pub each : (x : A) → Memᴰ x xs → P x
+  pub every : (x : A) → P x → Memᴰ x xs
 
 -- the ascending list of exactly the numbers with the property
-pub record ListOf (P : ℕ → Type 0) (xs : List ℕ) : Type 0 where
-  pub ascending : Ascending xs
-  pub each : (x : ℕ) → Memᴰ x xs → P x
-  pub every : (x : ℕ) → P x → Memᴰ x xs
+abbrev pub ListOf : (ℕ → Type 0) → List ℕ → Type 0
+ListOf P xs = ListBy (λ x y. x < y) P xs
 
--- on a board on which no job waits, after any history, the mates and the parents are those of the models
+-- the grades, the mates and the parents that a board answers are those of the models
 pub record AnswersTrue (v : Vocabulary) (k : Kind) (b : Board) : Type 0 where
-  pub under_true : (a d p : ℕ) → Named v a → d < length v.concepts → p < k.points → (FoundUnder k b p a d → TrulyUnder v k p a d) × (TrulyUnder v k p a d → FoundUnder k b p a d)
+  pub under_true : (a d : ℕ) → Named v a → d < length v.concepts → Truthful v k a d (b.found (under a d))
   pub mates_true : (a p : ℕ) (xs : List ℕ) → Named v a → p < k.points → ListOf (Mate v (FoundUnder k b p) a) xs → ListOf (Mate v (TrulyUnder v k p) a) xs
   pub parents_true : (a p : ℕ) (xs : List ℕ) → Named v a → p < k.points → ListOf (Parent v (FoundUnder k b p) a) xs → ListOf (Parent v (TrulyUnder v k p) a) xs
 

@@ -6,13 +6,13 @@ use Rattle.terms.specs.Vocabularies.{Vocabulary, Named, WellFormed}
 use Rattle.reasoning.specs.declared.Fact.{Fact}
 use Rattle.reasoning.specs.declared.Fact.TheVariants.{Under as under}
 use Rattle.reasoning.specs.declared.Job.{Job}
-use Rattle.reasoning.specs.Models.{Entails}
 use Rattle.reasoning.specs.Derivations.{Within, JobAt, fact_of, Derivable}
 use Rattle.saturation.specs.declared.State.TheVariants.{Idle, Queued, Held}
 use Rattle.saturation.specs.declared.Outcome.{Outcome}
 use Rattle.saturation.specs.declared.Outcome.TheVariants.{Finished}
 use Rattle.saturation.specs.Boards.{Moment, Waits, Quiet, QuietAt, Sane}
 use Rattle.saturation.specs.Effects.{Made}
+use Rattle.saturation.specs.Answers.{Truthful}
 use Rattle.saturation.specs.Histories.{Event, Leads, History, granted, given_back, unrechecked, held_count}
 use Rattle.saturation.specs.Runs.{Runs}
 
@@ -27,6 +27,14 @@ pub record Due (v : Vocabulary) (k : Kind) (u : Job × ℕ) : Type 0 where
   pub point : u.1 < k.points
   pub derivable : Derivable v (λ code. k.holds code u.1) (fact_of u.0)
 
+-- there are n distinct such pairs
+abbrev pub DistinctDue : Vocabulary → Kind → ℕ → Type 0
+DistinctDue v k n = (us : List (Job × ℕ)) × Distinct us × ((u : Job × ℕ) → Memᴰ u us → Due v k u) × (n ≡ length us)
+
+-- there are n such pairs in all
+abbrev pub AllDue : Vocabulary → Kind → ℕ → Type 0
+AllDue v k n = (us : List (Job × ℕ)) × Distinct us × ((u : Job × ℕ) → Memᴰ u us → Due v k u) × ((u : Job × ℕ) → Due v k u → Memᴰ u us) × (n ≡ length us)
+
 -- what every history promises of the moment that it led to
 pub record Promise (v : Vocabulary) (k : Kind) (es : List Event) (m : Moment) : Type 0 where
   -- leases granted are the leases lowered and the concepts now held
@@ -37,13 +45,11 @@ pub record Promise (v : Vocabulary) (k : Kind) (es : List Event) (m : Moment) : 
   pub queued_in_pile : (c : ℕ) → c < length v.concepts → m.board.state c ≡ Queued → m.pile c ≡ true
   pub only_queued : (c : ℕ) → m.pile c ≡ true → (c < length v.concepts) × (m.board.state c ≡ Queued)
   -- when no job waits, a grade holds a point just where every finite model there agrees
-  pub true_in_models : Quiet v m.board → (a d p : ℕ) → Named v a → d < length v.concepts → p < k.points →
-      (k.holds (m.board.found (under a d)) p ≡ true → Entails v (λ code. k.holds code p) a d) × (Entails v (λ code. k.holds code p) a d → k.holds (m.board.found (under a d)) p ≡ true)
+  pub true_in_models : Quiet v m.board → (a d : ℕ) → Named v a → d < length v.concepts → Truthful v k a d (m.board.found (under a d))
   -- the steps are as many as some distinct derivable pairs of job and point
-  pub few_steps : (us : List (Job × ℕ)) × Distinct us × ((u : Job × ℕ) → Memᴰ u us → Due v k u) × (m.board.steps ≡ length us)
-  -- with one point, when no job waits, these are all derivable pairs
-  pub exact_steps : k.points ≡ 1 → Quiet v m.board →
-      (us : List (Job × ℕ)) × Distinct us × ((u : Job × ℕ) → Memᴰ u us → Due v k u) × ((u : Job × ℕ) → Due v k u → Memᴰ u us) × (m.board.steps ≡ length us)
+  pub few_steps : DistinctDue v k m.board.steps
+  -- with one point, when no job waits, they are as many as all derivable pairs
+  pub exact_steps : k.points ≡ 1 → Quiet v m.board → AllDue v k m.board.steps
   -- when every concept is idle and none is lowered without its recheck, no job waits
   pub at_rest : ((c : ℕ) → c < length v.concepts → (m.board.state c ≡ Idle) × (unrechecked c es ≡ false)) → Quiet v m.board
   -- the grades are codes, and no job is done where its fact is not found

@@ -22,17 +22,21 @@ pub record Moment : Type 0 where
   pub board : Board
   pub pile : ℕ → Bool
 
--- the job waits: its done grade differs from the found grade of its fact
+-- the job rests: its done grade is the found grade of its fact
+abbrev pub Rests : Board → Job → Type 0
+Rests b j = b.done j ≡ b.found (fact_of j)
+
+-- the job waits: it does not rest
 abbrev pub Waits : Board → Job → Type 0
-Waits b j = b.done j ≡ b.found (fact_of j) → ⊥
+Waits b j = Rests b j → ⊥
 
 -- no job waits at the concept
 abbrev pub QuietAt : Vocabulary → Board → ℕ → Type 0
-QuietAt v b c = (j : Job) → JobAt v j c → b.done j ≡ b.found (fact_of j)
+QuietAt v b c = (j : Job) → JobAt v j c → Rests b j
 
 -- no job waits
 abbrev pub Quiet : Vocabulary → Board → Type 0
-Quiet v b = (j : Job) (c : ℕ) → JobAt v j c → b.done j ≡ b.found (fact_of j)
+Quiet v b = (j : Job) (c : ℕ) → JobAt v j c → Rests b j
 
 -- own jobs by right concept, then link jobs by left and right concept, then implication jobs by role and right concept
 pub data Before : Job → Job → Type 0 where
@@ -49,7 +53,7 @@ pub data Before : Job → Job → Type 0 where
 pub record First (v : Vocabulary) (b : Board) (c : ℕ) (j : Job) : Type 0 where
   pub at : JobAt v j c
   pub waits : Waits b j
-  pub none_before : (k : Job) → JobAt v k c → Before k j → b.done k ≡ b.found (fact_of k)
+  pub none_before : (k : Job) → JobAt v k c → Before k j → Rests b k
 
 -- with these done grades, a rule with the job among its premises draws the fact at the point
 abbrev pub Draws : Vocabulary → Kind → (Job → ℕ) → Job → Fact → ℕ → Type 0

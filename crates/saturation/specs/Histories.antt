@@ -8,7 +8,8 @@ use Rattle.saturation.specs.declared.State.TheVariants.{Idle, Queued, Held}
 use Rattle.saturation.specs.Boards.{Moment}
 use Rattle.saturation.specs.Effects.{Made, Took, Worked, Lowered, Rechecked, Unchanged}
 
--- the accepted calls, those inside runs included; `other` is a closing, a reopening, a question, a step count, or a call that was rejected
+-- a call, or a part of a run: a take, a step, a lowering or a recheck that was accepted, and `other` for all that leaves the board as it is, which
+-- are closings, reopenings, questions, counts of steps, and calls that were rejected
 pub data Event : Type 0 where
   took : ℕ → Event
   worked : ℕ → Job → Event

@@ -16,9 +16,17 @@ pub data Exhausts (v : Vocabulary) (k : Kind) (c : ℕ) : ℕ → ℕ → List E
   spent : {a : Moment} → Exhausts v k c 0 0 [] a a
   step : {budget steps : ℕ} {j : Job} {es : List Event} {a b z : Moment} → Worked v k c j a b → Exhausts v k c budget steps es b z → Exhausts v k c (budget + 1) (steps + 1) (es ++ worked c j ∷ []) a z
 
--- there is nothing to take: the pile is empty, or gives a number that is not queued on this board of n concepts
+-- the pile holds nothing
+abbrev pub EmptyPile : Moment → Type 0
+EmptyPile a = (x : ℕ) → a.pile x ≡ false
+
+-- the pile holds a number that is not queued on this board of n concepts
+abbrev pub NotQueued : ℕ → Moment → Type 0
+NotQueued n a = (x : ℕ) × (a.pile x ≡ true) × (x < n → a.board.state x ≢ Queued)
+
+-- there is nothing to take: the pile is empty, or gives a number that is not queued
 abbrev pub NothingToTake : ℕ → Moment → Type 0
-NothingToTake n a = ((x : ℕ) → a.pile x ≡ false) ⊎ ((x : ℕ) × (a.pile x ≡ true) × (x < n → a.board.state x ≢ Queued))
+NothingToTake n a = EmptyPile a ⊎ NotQueued n a
 
 -- the whole run: outcome and steps, and the events inside
 pub data Runs (v : Vocabulary) (k : Kind) : ℕ → Outcome → ℕ → List Event → Moment → Moment → Type 0 where

@@ -1,6 +1,5 @@
 -- A run after workers took turns on a fresh board ends with all the work done, and so the answer is the truth.
-use Rattle.std.proofs.Common.{◌≡◌, ℕ, ◌≤◌, true, false, List, ◌++◌, length, get_or, Ok, Err, Result, sym, ap, ◌∙◌, subst, subst₂, inl, inr, arith}
-use Rattle.std.proofs.lemmas.Bool.{both_ways}
+use Rattle.std.proofs.Common.{◌≡◌, ℕ, ◌≤◌, true, false, List, ◌++◌, length, get_or, Ok, Err, Result, sym, ap, ◌∙◌, subst, subst₂, arith}
 use Rattle.std.specs.Result.{is_err, MatchResult}
 use Rattle.rejections.specs.declared.Rejection.{Rejection}
 use Rattle.grades.specs.Kinds.{Kind, Lawful}
@@ -10,6 +9,7 @@ use Rattle.reasoning.specs.declared.Fact.TheVariants.{Under as under}
 use Rattle.saturation.specs.Boards.{Board, Sane}
 use Rattle.saturation.specs.Histories.{Event, History}
 use Rattle.saturation.specs.AnyOrder.{AllDone, Promise}
+use Rattle.saturation.specs.Answers.{Truthful}
 use Rattle.saturation.proofs.Numbers.{pairs_small}
 use Rattle.saturation.proofs.Finish.{join_leads, runs_lead, runs_finish, balanced_rested}
 use Rattle.saturation.proofs.OneAnswer.{any_order}
@@ -17,29 +17,28 @@ use Rattle.board.specs.Stages.{OpenBoard}
 use Rattle.board.specs.declared.board.running.Ran.{Ran}
 use Rattle.board.specs.Stages.{ClosedBoard}
 use Rattle.board.specs.Layout.{room}
-use Rattle.board.specs.Views.{board_of, closed_of, moment_of}
+use Rattle.board.specs.Views.{content_of, moment_of}
 use Rattle.board.specs.Frames.{Kept}
 use Rattle.board.specs.Refusals.{InOrder, MakeRejected}
 use Rattle.board.specs.Calls.{MadeBy, MadeEmpty, RanBy, SameBoard}
 use Rattle.board.proofs.Frames.{kept_then}
 use Rattle.board.proofs.Running.{unready}
-use Rattle.workers.specs.Sharing.{Truthful}
-use Rattle.sharing.specs.Sharing.{Workable, TookTurns, WorkDone, Untouched}
+use Rattle.sharing.specs.Sharing.{Workable, TookTurns, WorkDone}
 
 module _ {X Y : Type 0} (k : Kind) (lawful : Lawful k) (v : Vocabulary) (wf : WellFormed v) (numbers : Y → Numbers) (words : List ℕ) where
   -- a board that was just made goes
   pub made_goes : (a : OpenBoard X) (p : Y) → MadeBy v k numbers words a p → a.counts.concepts ≤ (numbers p).size → Workable v k numbers a p
-  made_goes a p m l = record { ready = record { concepts = m.concepts; roles = m.roles; wide = l }; sane = subst₂ (λ n r. Sane n r k (board_of a)) m.concepts m.roles m.sane }
+  made_goes a p m l = record { ready = record { counts = m.counts; wide = l }; sane = subst₂ (λ n r. Sane n r k (content_of a)) m.counts.concepts m.counts.roles m.sane }
 
   -- the history of what was done, and that all is done; no vocabulary and kind have more pairs of job and point than 2281701376
   abbrev Ended : OpenBoard X → Y → Type 0
   Ended b q = ((es : List Event) × History v k es (moment_of numbers b q)) × AllDone v (moment_of numbers b q)
 
   ended : (budget : ℕ) → 2281701376 ≤ budget → (a : OpenBoard X) (p : Y) (b : OpenBoard X) (q : Y) (c : OpenBoard X) (r : Y) (ran : Result Ran Rejection) → MadeBy v k numbers words a p → TookTurns v k numbers a p b q → RanBy v k numbers budget b q c r ran → Ended c r
-  ended budget enough a p b q c r (Err e) m t u = let g = t.onward.going.ready in absurd (unready v b.counts.concepts b.counts.roles (numbers q).size u.0 (g.concepts, g.roles) g.wide)
+  ended budget enough a p b q c r (Err e) m t u = let g = t.onward.going.ready in absurd (unready v b.counts.concepts b.counts.roles (numbers q).size u.0 g.counts g.wide)
   ended budget enough a p b q c r (Ok ran) m t u =
       let g = t.onward.going in
-      let w = u.1 (subst₂ (λ n r. Sane n r k (board_of b)) (sym g.ready.concepts) (sym g.ready.roles) g.sane) in
+      let w = u.1 (subst₂ (λ n r. Sane n r k (content_of b)) (sym g.ready.counts.concepts) (sym g.ready.counts.roles) g.sane) in
       let h : History v k t.events (moment_of numbers b q) = record { begin = moment_of numbers a p; made = m.made; led = t.onward.led } in
       let few = pairs_small v k wf lawful in
       let done = (runs_finish k lawful v wf).1 w.0 t.events (moment_of numbers b q) (moment_of numbers c r) budget ran.steps ran.outcome h (balanced_rested k lawful v wf h t.balanced t.looked_at) (omega arith) w.1 in
@@ -58,41 +57,35 @@ module _ {X Y : Type 0} (k : Kind) (lawful : Lawful k) (v : Vocabulary) (wf : We
     promise = (any_order k lawful v wf).0 end.0.0 (moment_of numbers c r) end.0.1
 
     -- what is said of the open board holds of the closed one
-    closing : (P : Board → Type 0) → P (board_of c) → P (closed_of d)
+    closing : (P : Board → Type 0) → P (content_of c) → P (content_of d)
     closing P h = subst P (sym closed.view) h
 
     pub work_done : WorkDone v k numbers words p₀ d r
     work_done = record {
-      concepts = closed.concepts ∙ kept.frame.concepts ∙ made.concepts;
-      roles = closed.roles ∙ kept.frame.roles ∙ made.roles;
-      extent = ap length closed.words ∙ kept.frame.extent ∙ made.extent;
-      further = λ i l.
-          let h : room a.counts.concepts a.counts.roles ≤ i = subst₂ (λ n m. room n m ≤ i) (closed.concepts ∙ kept.frame.concepts) (closed.roles ∙ kept.frame.roles) l in
-          ap (λ ws. get_or ws i 0) closed.words ∙ kept.frame.further i h ∙ made.further i h;
+      counts = record { concepts = closed.concepts ∙ kept.frame.concepts ∙ made.counts.concepts; roles = closed.roles ∙ kept.frame.roles ∙ made.counts.roles };
+      beyond = record {
+        extent = ap length closed.words ∙ kept.frame.beyond.extent ∙ made.beyond.extent;
+        further = λ i l.
+            let h : room a.counts.concepts a.counts.roles ≤ i = subst₂ (λ n m. room n m ≤ i) (closed.concepts ∙ kept.frame.concepts) (closed.roles ∙ kept.frame.roles) l in
+            ap (λ ws. get_or ws i 0) closed.words ∙ kept.frame.beyond.further i h ∙ made.beyond.further i h;
+      };
       size = kept.size ∙ size;
       events = end.0.0;
       history = closing (λ x. History v k end.0.0 (record { board = x; pile = (numbers r).holds })) end.0.1;
       all_done = closing (λ x. AllDone v (record { board = x; pile = (numbers r).holds })) end.1;
       sane = closing (λ x. Sane (length v.concepts) v.roles k x) promise.sane;
-      truthful = λ x y i l. closing (λ z. Truthful v k x y (z.found (under x y))) (λ o h. promise.true_in_models end.1.quiet x y o i l h);
+      truthful = λ x y i l. closing (λ z. Truthful v k x y (z.found (under x y))) (λ o h. promise.true_in_models end.1.quiet x y i l o h);
     }
 
--- a closed board that was made empty
-pub untouched : {X Y : Type 0} (words : List ℕ) (p : Y) (a : OpenBoard X) (q : Y) (d : ClosedBoard X) → MadeEmpty words p a q → SameBoard a d → Untouched words p d q
-untouched words p a q d m s = record {
+-- a board that was made empty, when it is closed
+pub empty_closed : {X Y : Type 0} (words : List ℕ) (p : Y) (a : OpenBoard X) (q : Y) (d : ClosedBoard X) → MadeEmpty words p a q → SameBoard a d → MadeEmpty words p d q
+empty_closed words p a q d m s = record {
   concepts = s.concepts ∙ m.concepts;
   roles = s.roles ∙ m.roles;
   steps = ap (λ (b : Board). b.steps) s.view ∙ m.steps;
   same_words = s.words ∙ m.same_words;
   same_pile = m.same_pile;
 }
-
--- a making that is in order is not rejected
-pub in_order : {v : Vocabulary} {k : Kind} {words : ℕ} {s : Numbers} {e : Rejection} → InOrder v k words s → MakeRejected v k words s e → ⊥
-in_order o (MakeRejected.foreign_code {i = i} m l) = let h = o.coded i m in omega arith
-in_order o (MakeRejected.too_few_words c l) = let h = o.enough in omega arith
-in_order o (MakeRejected.unfit_pile c l (inl h)) = let w = o.wide in omega arith
-in_order {s = s} o (MakeRejected.unfit_pile c l (inr t)) = both_ways (s.holds t.0) (o.empty t.0) t.1
 
 no_truth : false ≡ true → ⊥
 no_truth e = let z : ◌≡◌ {A = ℕ} 0 1 = cc in omega arith

@@ -1,2 +1,3 @@
 pub mod Turning
 pub mod Ending
+pub mod Asking

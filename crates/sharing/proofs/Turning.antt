@@ -13,7 +13,7 @@ use Rattle.saturation.proofs.Places.{idle≢held, held≢queued}
 use Rattle.saturation.proofs.Finish.{join_leads, granted_of, given_back_of}
 use Rattle.board.specs.Stages.{OpenBoard}
 use Rattle.board.specs.declared.tokens.Lease.{Lease}
-use Rattle.board.specs.Views.{board_of, moment_of}
+use Rattle.board.specs.Views.{content_of, moment_of}
 use Rattle.board.specs.Frames.{Framed, Kept}
 use Rattle.board.specs.Raises.{Ready}
 use Rattle.board.specs.Calls.{StaysSane, Taken, Stepped}
@@ -40,12 +40,12 @@ looked_both x (rechecked c ∷ es) fs h i = go (eqb x c) h (λ e. looked_both x 
 module _ {X Y : Type 0} (v : Vocabulary) (k : Kind) (numbers : Y → Numbers) where
   -- the board's own counts, in the vocabulary's words
   counts : (P : ℕ → ℕ → Type 0) (a : OpenBoard X) (p : Y) → Ready v numbers a p → P a.counts.concepts a.counts.roles → P (length v.concepts) v.roles
-  counts P a p r = subst₂ P r.concepts r.roles
+  counts P a p r = subst₂ P r.counts.concepts r.counts.roles
 
   pub goes_on : (a : OpenBoard X) (p : Y) (b : OpenBoard X) (q : Y) → Kept numbers a p b q → StaysSane k a b → Workable v k numbers a p → Workable v k numbers b q
   goes_on a p b q h s g = record {
     ready = ready_kept h g.ready;
-    sane = counts (λ n m. Sane n m k (board_of b)) a p g.ready (s (subst₂ (λ n m. Sane n m k (board_of a)) (sym g.ready.concepts) (sym g.ready.roles) g.sane));
+    sane = counts (λ n m. Sane n m k (content_of b)) a p g.ready (s (subst₂ (λ n m. Sane n m k (content_of a)) (sym g.ready.counts.concepts) (sym g.ready.counts.roles) g.sane));
   }
 
   -- one after the other
@@ -71,16 +71,16 @@ module _ {X Y : Type 0} (v : Vocabulary) (k : Kind) (numbers : Y → Numbers) wh
     events = other ∷ [];
     onward = record {
       kept = h;
-      going = record { ready = ready_kept h g.ready; sane = subst (λ (o : OpenBoard X). Sane (length v.concepts) v.roles k (board_of o)) (sym e) g.sane };
+      going = record { ready = ready_kept h g.ready; sane = subst (λ (o : OpenBoard X). Sane (length v.concepts) v.roles k (content_of o)) (sym e) g.sane };
       led = and_then nothing (record {
-        states = λ x l. ap (λ (o : OpenBoard X). (board_of o).state x) e;
+        states = λ x l. ap (λ (o : OpenBoard X). (content_of o).state x) e;
         pile = s;
-        grades = record { found = λ f w. ap (λ (o : OpenBoard X). (board_of o).found f) e; done = λ j w. ap (λ (o : OpenBoard X). (board_of o).done j) e; steps = ap (λ (o : OpenBoard X). (board_of o).steps) e };
+        grades = record { found = λ f w. ap (λ (o : OpenBoard X). (content_of o).found f) e; done = λ j w. ap (λ (o : OpenBoard X). (content_of o).done j) e; steps = ap (λ (o : OpenBoard X). (content_of o).steps) e };
       });
     };
     balanced = refl;
     looked_at = λ c. refl;
-    held = λ x l i. ap (λ (o : OpenBoard X). (board_of o).state x) e ∙ i;
+    held = λ x l i. ap (λ (o : OpenBoard X). (content_of o).state x) e ∙ i;
   }
 
   -- a take that is rejected
@@ -91,19 +91,19 @@ module _ {X Y : Type 0} (v : Vocabulary) (k : Kind) (numbers : Y → Numbers) wh
   pub stepped : (lease : Lease) (a : OpenBoard X) (p : Y) (b : OpenBoard X) (q : Y) (r : Result Job Rejection) → Workable v k numbers a p → Kept numbers a p b q → StaysSane k a b → Stepped v k numbers lease a p b q r →
       TookTurns v k numbers a p b q
   stepped lease a p b q (Ok j) g h s t =
-      let w = t.1 (subst₂ (λ n m. Sane n m k (board_of a)) (sym g.ready.concepts) (sym g.ready.roles) g.sane) in
+      let w = t.1 (subst₂ (λ n m. Sane n m k (content_of a)) (sym g.ready.counts.concepts) (sym g.ready.counts.roles) g.sane) in
       record {
         events = worked lease.concept j ∷ [];
         onward = record { kept = h; going = goes_on a p b q h s g; led = and_then nothing w };
         balanced = refl;
         looked_at = λ c. refl;
-        held = λ x l i. (w.leaves x l (λ e u. idle≢held ((board_of a).state x) e i)).0 ∙ i;
+        held = λ x l i. (w.leaves x l (λ e u. idle≢held ((content_of a).state x) e i)).0 ∙ i;
       }
   stepped lease a p b q (Err e) g h s t = idle_turn a p b q g h t.1 (λ x. ap (λ y. (numbers y).holds x) t.2)
 
   -- a lowering and its recheck
   pub gave_back : (c : ℕ) (a : OpenBoard X) (p : Y) (b d : OpenBoard X) (q : Y) → Workable v k numbers a p → Framed a b → StaysSane k a b →
-      ((pile : ℕ → Bool) → Lowered a.counts.concepts a.counts.roles c (record { board = board_of a; pile = pile }) (record { board = board_of b; pile = pile })) →
+      ((pile : ℕ → Bool) → Lowered a.counts.concepts a.counts.roles c (record { board = content_of a; pile = pile }) (record { board = content_of b; pile = pile })) →
       Kept numbers b p d q → StaysSane k b d → Rechecked v c (moment_of numbers b p) (moment_of numbers d q) → GaveBack v k numbers c a p d q
   gave_back c a p b d q g f s l h t r =
       let low = counts (λ n m. Lowered n m c (moment_of numbers a p) (moment_of numbers b p)) a p g.ready (l (numbers p).holds) in
@@ -129,6 +129,6 @@ module _ {X Y : Type 0} (v : Vocabulary) (k : Kind) (numbers : Y → Numbers) wh
           | inr n ↦ rw (ne_eqb x c n) (looked_both x m.events (took c ∷ []) (m.looked_at x) refl)
         ];
         held = λ x l i.
-            let n : x ≡ c → ⊥ = λ q. held≢queued ((board_of a).state x) i (ap (board_of a).state q ∙ taken.queued) in
+            let n : x ≡ c → ⊥ = λ q. held≢queued ((content_of a).state x) i (ap (content_of a).state q ∙ taken.queued) in
             back.held x l n (m.held x l (taken.others x l n ∙ i));
       }

@@ -1,10 +1,10 @@
-//! Sharing a board.
+//! Sharing a board and asking it.
 use grades::kind::GradeKind;
 use grades::releases::Releases;
 use piles::pile::Pile;
 use piles::ring::Ring;
 use rejections::Rejection;
-use sharing::share;
+use sharing::share_and_ask;
 use staging::sheets::with_terms;
 use std::process::Abort;
 use std::test::Fail;
@@ -17,9 +17,10 @@ const SHEET: &[u8] =
 /// The words of its board, which has six concepts and two roles.
 const WORDS: usize = 258;
 
-/// What was found of "0 under 3", how many steps that took, and how many numbers the pile then holds.
+/// What was answered to "0 under 3", what the board answers to that again, how many steps it took, and how many numbers the pile then holds.
 #[derive(Clone, Copy, PartialEq, Debug)]
 struct End {
+    answer: Result<u16, Rejection>,
     under: Result<u16, Rejection>,
     steps: u64,
     piled: usize,
@@ -29,10 +30,11 @@ struct End {
 fn shared<K: GradeKind>(terms: &Terms, words: &mut [u16], kind: K, workers: u16) -> End {
     let mut list = [0; 6];
     let mut ring = Ring::new(&mut list);
-    let board = share(terms, words, &mut ring, kind, workers);
+    let asked = share_and_ask(terms, words, &mut ring, kind, workers, 0, 3);
     End {
-        under: board.under(terms, 0, 3),
-        steps: board.steps(),
+        answer: asked.answer,
+        under: asked.board.under(terms, 0, 3),
+        steps: asked.board.steps(),
         piled: ring.count(),
     }
 }
@@ -41,16 +43,18 @@ fn shared<K: GradeKind>(terms: &Terms, words: &mut [u16], kind: K, workers: u16)
 fn check_workers(rt: &impl Abort, terms: &Terms) -> Result<(), Fail> {
     let mut alone = [9; WORDS + 1];
     let end = shared(terms, &mut alone, Releases, 0);
-    assert_eq!(rt; (end.under, end.piled, alone[WORDS]), (Ok(2), 0, 9));
+    assert_eq!(rt; (end.answer, end.under, end.piled), (Ok(2), Ok(2), 0));
+    assert_eq!(rt; alone[WORDS], 9);
     for workers in [1, 2, 3, 4, 5, 1000] {
         let mut words = [9; WORDS + 1];
         let end = shared(terms, &mut words, Releases, workers);
-        assert_eq!(rt; (end.under, end.piled), (Ok(2), 0));
+        assert_eq!(rt; (end.answer, end.under, end.piled), (Ok(2), Ok(2), 0));
         assert!(rt; words == alone);
     }
     let mut few = [9; WORDS - 1];
     let end = shared(terms, &mut few, Releases, 3);
-    assert_eq!(rt; (end.under, end.steps), (Err(Rejection::OtherTerms), 0));
+    assert_eq!(rt; (end.answer, end.steps), (Err(Rejection::TooFewWords), 0));
+    assert_eq!(rt; end.under, Err(Rejection::OtherTerms));
     assert!(rt; few == [9; WORDS - 1]);
     Ok(())
 }
@@ -58,10 +62,9 @@ fn check_workers(rt: &impl Abort, terms: &Terms) -> Result<(), Fail> {
 /// On the empty sheet there is nothing to find and nothing to do.
 fn check_empty(rt: &impl Abort, terms: &Terms) -> Result<(), Fail> {
     let end = shared(terms, &mut [], Releases, 2);
-    assert_eq!(rt;
-        (end.under, end.steps, end.piled),
-        (Err(Rejection::NoSuchConcept), 0, 0)
-    );
+    assert_eq!(rt; (end.steps, end.piled), (0, 0));
+    assert_eq!(rt; end.answer, Err(Rejection::NoSuchConcept));
+    assert_eq!(rt; end.under, Err(Rejection::NoSuchConcept));
     Ok(())
 }
 

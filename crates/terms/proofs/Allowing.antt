@@ -1,5 +1,6 @@
 -- A verdict is Ok exactly where the entry may come next.
 use Rattle.std.proofs.Common.{◌≡◌, ℕ, ◌<◌, Bool, true, false, cond, ltb, Ok, Err, refl, ap, ◌∙◌, arith}
+use Rattle.std.specs.Result.{result_and}
 use Rattle.std.proofs.lemmas.Bool.{ltb-true, lt-ltb, cond-true}
 use Rattle.terms.specs.declared.records.Concept.{Concept}
 use Rattle.terms.specs.declared.records.Concept.TheVariants as concept
@@ -8,7 +9,7 @@ use Rattle.terms.specs.declared.entry.Entry.TheVariants as entry
 use Rattle.terms.specs.declared.entry.Blame.{Blame}
 use Rattle.terms.specs.declared.entry.Blame.TheVariants as blame
 use Rattle.terms.specs.declared.tally.Tally.{Tally}
-use Rattle.terms.specs.Counting.{Allowed, Verdict, below, first, paired, named, verdict_of}
+use Rattle.terms.specs.Counting.{Allowed, Verdict, below, paired, named, verdict_of}
 use Rattle.terms.specs.Rule.{Earlier}
 
 below_ok : (n limit : ℕ) (b : Blame) → below n limit b ≡ Ok tt → n < limit
@@ -21,12 +22,12 @@ below_ok n limit b = at_test (ltb n limit) (ltb-true n limit)
 ok_below : (n limit : ℕ) (b : Blame) → n < limit → below n limit b ≡ Ok tt
 ok_below n limit b h = cond-true (ltb n limit) _ _ (lt-ltb n limit h)
 
-first_ok : (v w : Verdict) → first v w ≡ Ok tt → (v ≡ Ok tt) × (w ≡ Ok tt)
+first_ok : (v w : Verdict) → result_and v w ≡ Ok tt → (v ≡ Ok tt) × (w ≡ Ok tt)
 first_ok (Ok x) w e = (refl, e)
 first_ok (Err x) w e = let z : ◌≡◌ {A = ℕ} 0 1 = cc in absurd (omega arith)
 
-ok_first : (v w : Verdict) → v ≡ Ok tt → w ≡ Ok tt → first v w ≡ Ok tt
-ok_first v w e f = ap (λ (x : Verdict). first x w) e ∙ f
+ok_first : (v w : Verdict) → v ≡ Ok tt → w ≡ Ok tt → result_and v w ≡ Ok tt
+ok_first v w e f = ap (λ (x : Verdict). result_and x w) e ∙ f
 
 paired_ok : (a n b m : ℕ) → paired a n b m ≡ Ok tt → (a < n) × (b < m)
 paired_ok a n b m e = let h = first_ok (below a n blame.First) (below b m blame.Second) e in (below_ok a n blame.First h.0, below_ok b m blame.Second h.1)

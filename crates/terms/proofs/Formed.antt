@@ -6,8 +6,8 @@ use Rattle.terms.specs.declared.records.Concept.{Concept}
 use Rattle.terms.specs.declared.records.Concept.TheVariants.{Atomic, Conjunction, Restriction}
 use Rattle.terms.specs.declared.records.Inclusion.{Inclusion}
 use Rattle.terms.specs.declared.terms.Terms.{Terms}
-use Rattle.terms.specs.Vocabularies.{Is, WellFormed}
-use Rattle.terms.specs.Rule.{blank, NamesBelow, Earlier}
+use Rattle.terms.specs.Vocabularies.{Is, NamesBelow, WellFormed}
+use Rattle.terms.specs.Rule.{blank, Earlier}
 use Rattle.terms.specs.Views.{terms_of}
 
 -- a member of a list stands somewhere in it

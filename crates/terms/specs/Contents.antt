@@ -1,5 +1,6 @@
 -- What terms hold: their lists, and the roles' order and transitivity as rows of bits.
-use Rattle.std.specs.Prelude.{ℕ, ◌/◌, ◌%◌, ◌^◌, Bool, List, [], replicate, ◌==◌, slice_index}
+use Rattle.std.specs.Prelude.{ℕ, Bool, List, [], replicate, ◌==◌, slice_index}
+use Rattle.std.specs.Int.{bit_at}
 use Rattle.terms.specs.declared.records.Concept.{Concept}
 use Rattle.terms.specs.declared.records.Inclusion.{Inclusion}
 use Rattle.terms.specs.Vocabularies.{Vocabulary}
@@ -16,9 +17,9 @@ pub record Contents : Type 0 where
 abbrev pub nothing : Contents
 nothing = record { concepts = []; inclusions = []; roles = 0; order = replicate 32 0; transitive = 0 }
 
--- bit k of a word
+-- whether bit k of a word is set
 abbrev pub bit : ℕ → ℕ → Bool
-bit w k = (w / 2 ^ k) % 2 == 1
+bit w k = bit_at w k == 1
 
 -- the vocabulary that the contents say
 abbrev pub vocabulary_of : Contents → Vocabulary

@@ -1,5 +1,6 @@
 -- When an entry may come next, by the counts of what came before.
 use Rattle.std.specs.Prelude.{ℕ, ◌+◌, ◌<◌, min, cond, List, [], ◌∷◌, Ok, Err, Result, nat_lt}
+use Rattle.std.specs.Result.{result_and}
 use Rattle.terms.specs.declared.records.Concept.{Concept}
 use Rattle.terms.specs.declared.records.Concept.TheVariants as concept
 use Rattle.terms.specs.declared.entry.Entry.{Entry}
@@ -8,7 +9,8 @@ use Rattle.terms.specs.declared.entry.Blame.{Blame}
 use Rattle.terms.specs.declared.entry.Blame.TheVariants as blame
 use Rattle.terms.specs.declared.tally.Room.{Room}
 use Rattle.terms.specs.declared.tally.Tally.{Tally}
-use Rattle.terms.specs.Rule.{Earlier, NamesBelow}
+use Rattle.terms.specs.Vocabularies.{NamesBelow}
+use Rattle.terms.specs.Rule.{Earlier}
 
 -- the room in lists of c concepts and i inclusions, within the limits
 abbrev pub room_for : ℕ → ℕ → Room
@@ -49,14 +51,9 @@ Verdict = Result (Unit {0}) Blame
 abbrev pub below : ℕ → ℕ → Blame → Verdict
 below n limit b = cond (nat_lt n limit) (Ok tt) (Err b)
 
--- the first of two verdicts, or the second where that is Ok
-abbrev pub first : Verdict → Verdict → Verdict
-first (Ok x) v = v
-first (Err b) v = Err b
-
 -- two operands, each below its count
 abbrev pub paired : ℕ → ℕ → ℕ → ℕ → Verdict
-paired a n b m = first (below a n blame.First) (below b m blame.Second)
+paired a n b m = result_and (below a n blame.First) (below b m blame.Second)
 
 -- the operands of a concept
 abbrev pub named : Tally → Concept → Verdict
@@ -67,8 +64,8 @@ named t (concept.Restriction r c) = paired r t.roles c t.concepts
 
 -- an entry's verdict
 abbrev pub verdict_of : Tally → Entry → Verdict
-verdict_of t (entry.Concept c) = first (named t c) (below t.concepts t.room.concepts blame.Room)
+verdict_of t (entry.Concept c) = result_and (named t c) (below t.concepts t.room.concepts blame.Room)
 verdict_of t entry.Role = below t.roles 32 blame.Room
 verdict_of t (entry.Order r s) = paired r t.roles s t.roles
 verdict_of t (entry.Transitive r) = below r t.roles blame.First
-verdict_of t (entry.Inclusion i) = first (paired i.sub t.concepts i.sup t.concepts) (below t.inclusions t.room.inclusions blame.Room)
+verdict_of t (entry.Inclusion i) = result_and (paired i.sub t.concepts i.sup t.concepts) (below t.inclusions t.room.inclusions blame.Room)

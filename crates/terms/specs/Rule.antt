@@ -3,6 +3,7 @@ use Rattle.std.specs.Prelude.{◌≡◌, ℕ, ◌+◌, ◌<◌, ◌≤◌, max, 
 use Rattle.terms.specs.declared.records.Concept.{Concept}
 use Rattle.terms.specs.declared.records.Concept.TheVariants.{Atomic, Top, Conjunction, Restriction}
 use Rattle.terms.specs.declared.records.Inclusion.{Inclusion}
+use Rattle.terms.specs.Vocabularies.{NamesBelow}
 use Rattle.terms.specs.Contents.{bit}
 
 -- how many concepts there have to be before a concept
@@ -30,10 +31,6 @@ AllEarlier roles n cs = (k : ℕ) → k < n → Earlier roles k (slice_index_or 
 -- an inclusion that no list has
 abbrev pub blank : Inclusion
 blank = record { sub = 0; sup = 0; code = 0 }
-
--- an inclusion names concepts below n
-abbrev pub NamesBelow : ℕ → Inclusion → Type 0
-NamesBelow n i = (i.sub < n) × (i.sup < n)
 
 -- each of the first m inclusions of a list does
 abbrev pub AllNamed : ℕ → ℕ → List Inclusion → Type 0

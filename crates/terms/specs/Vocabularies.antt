@@ -32,12 +32,16 @@ is_atomic (Restriction r d) = false
 abbrev pub is_named : Vocabulary → ℕ → Bool
 is_named v c = nat_lt c (length v.concepts) && is_atomic (slice_index_or v.concepts c Top)
 
--- what all vocabularies keep: operands are earlier, inclusions name concepts, role numbers name roles, the order is reflexive and
--- transitive, and there are at most 1,024 concepts and 32 roles
+-- an inclusion names concepts below n
+abbrev pub NamesBelow : ℕ → Inclusion → Type 0
+NamesBelow n i = (i.sub < n) × (i.sup < n)
+
+-- what all vocabularies keep: operands are earlier, inclusions name concepts, role numbers name roles; the order is reflexive and
+-- transitive, and of roles only, as is the mark of the transitive ones; at most 1,024 concepts, 4,096 inclusions and 32 roles
 pub record WellFormed (v : Vocabulary) : Type 0 where
   pub both : (c d e : ℕ) → Is v c (Conjunction d e) → (d < c) × (e < c)
   pub some : (c r d : ℕ) → Is v c (Restriction r d) → (r < v.roles) × (d < c)
-  pub stated : (i : Inclusion) → Memᴰ i v.inclusions → (i.sub < length v.concepts) × (i.sup < length v.concepts)
+  pub stated : (i : Inclusion) → Memᴰ i v.inclusions → NamesBelow (length v.concepts) i
   pub few_concepts : length v.concepts ≤ 1024
   pub few_inclusions : length v.inclusions ≤ 4096
   pub few_roles : v.roles ≤ 32

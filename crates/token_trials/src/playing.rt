@@ -1,4 +1,4 @@
-//! Playing a script on a board and a wider one.
+//! Playing a script on a board and on one with a concept more, and comparing each answer with the script's.
 use crate::lines::{Deed, Line, Place, Which, Who};
 use crate::score::Score;
 use board::board::OpenBoard;

@@ -3,7 +3,7 @@
 ghost use Rattle.std.specs.Prelude.{◌≡◌, ◌<◌, ◌≤◌, true, false, length, MatchResult};
 ghost use Rattle.terms.specs.Views.{terms_of};
 ghost use Rattle.saturation.specs.Effects.{Rechecked};
-ghost use Rattle.board.specs.Views.{board_of, moment_of};
+ghost use Rattle.board.specs.Views.{content_of, moment_of};
 ghost use Rattle.board.specs.Frames.{Framed, Kept};
 ghost use Rattle.board.specs.Raises.{Ready};
 ghost use Rattle.board.specs.Refusals.{IsHeld, Unready};
@@ -35,8 +35,8 @@ impl<'a, K: GradeKind> OpenBoard<'a, K> {
 
     /// Whether `c` is a concept of the board that is held.
     fn is_held(&self, c: u16) -> bool
-        ensures held { result ≡ true → IsHeld self.now.counts.concepts (board_of self.now) c }
-        ensures free { result ≡ false → IsHeld self.now.counts.concepts (board_of self.now) c → ⊥ }
+        ensures held { result ≡ true → IsHeld self.now.counts.concepts (content_of self.now) c }
+        ensures free { result ≡ false → IsHeld self.now.counts.concepts (content_of self.now) c → ⊥ }
     {
         let c = usize::from(c);
         c < self.counts.concepts && matches!(self.state(c), State::Held)

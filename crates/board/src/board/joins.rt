@@ -2,7 +2,7 @@
 ghost use Rattle.std.specs.Prelude.{◌≡◌, ◌<◌, slice_index_or};
 ghost use Rattle.terms.specs.declared.records.Concept.TheVariants.{Atomic as atomic};
 ghost use Rattle.terms.specs.Views.{terms_of};
-ghost use Rattle.board.specs.Views.{board_of};
+ghost use Rattle.board.specs.Views.{content_of};
 ghost use Rattle.board.specs.Sessions.{SessionDrawn};
 ghost use Rattle.board.specs.OwnDraws.{AnyBelow};
 ghost use Rattle.board.specs.JoinDraws.{partner, conclusion, Placed, Heads, ByPartner, ByPartners, ByRole, ByJoin, ByLink, ByFiller, ByImplication};
@@ -108,7 +108,7 @@ impl<'w, 'a, 't, K: GradeKind, P: Pile> Session<'w, 'a, 't, K, P> {
         requires placed { Placed (terms_of self.old.terms.now) partners }
         requires heads { Heads (terms_of self.old.terms.now) head }
         requires number { i < self.old.board.now.counts.concepts }
-        ensures { SessionDrawn K.GradeKind.kind P.Pile.numbers (λ _. ByPartner K.GradeKind.kind (board_of self.old.board.now).done partners head grade i) self.old self.new }
+        ensures { SessionDrawn K.GradeKind.kind P.Pile.numbers (λ _. ByPartner K.GradeKind.kind (content_of self.old.board.now).done partners head grade i) self.old self.new }
     {
         let met = K::meet(grade, self.board.done(partners.job(i)));
         if met != K::none() {
@@ -120,7 +120,7 @@ impl<'w, 'a, 't, K: GradeKind, P: Pile> Session<'w, 'a, 't, K, P> {
     fn draw_partners(&mut self, partners: Partners, head: Head, grade: u16)
         requires placed { Placed (terms_of self.old.terms.now) partners }
         requires heads { Heads (terms_of self.old.terms.now) head }
-        ensures { SessionDrawn K.GradeKind.kind P.Pile.numbers (λ v. ByPartners v K.GradeKind.kind (board_of self.old.board.now).done partners head grade) self.old self.new }
+        ensures { SessionDrawn K.GradeKind.kind P.Pile.numbers (λ v. ByPartners v K.GradeKind.kind (content_of self.old.board.now).done partners head grade) self.old self.new }
     {
         // By number, as the concepts of `draw_concepts`.
         for i in 0..self.terms.concepts().len() {
@@ -131,7 +131,7 @@ impl<'w, 'a, 't, K: GradeKind, P: Pile> Session<'w, 'a, 't, K, P> {
     /// Draws through the transitive roles between the two.
     fn draw_roles(&mut self, partners: Partners, join: Join)
         requires { Placed (terms_of self.old.terms.now) partners }
-        ensures { SessionDrawn K.GradeKind.kind P.Pile.numbers (λ v. AnyBelow v.roles (ByRole v K.GradeKind.kind (board_of self.old.board.now).done partners join)) self.old self.new }
+        ensures { SessionDrawn K.GradeKind.kind P.Pile.numbers (λ v. AnyBelow v.roles (ByRole v K.GradeKind.kind (content_of self.old.board.now).done partners join)) self.old self.new }
     {
         let terms = self.terms;
         // By `as`: with `usize::from` the goals speak of the conversion's answer, and the answers to them fail.
@@ -149,7 +149,7 @@ impl<'w, 'a, 't, K: GradeKind, P: Pile> Session<'w, 'a, 't, K, P> {
     /// implication's, there is nothing.
     fn draw_join(&mut self, partners: Partners, join: Join)
         requires { Placed (terms_of self.old.terms.now) partners }
-        ensures { SessionDrawn K.GradeKind.kind P.Pile.numbers (λ v. ByJoin v K.GradeKind.kind (board_of self.old.board.now).done partners join) self.old self.new }
+        ensures { SessionDrawn K.GradeKind.kind P.Pile.numbers (λ v. ByJoin v K.GradeKind.kind (content_of self.old.board.now).done partners join) self.old self.new }
     {
         if self
             .terms
@@ -164,7 +164,7 @@ impl<'w, 'a, 't, K: GradeKind, P: Pile> Session<'w, 'a, 't, K, P> {
     pub(super) fn draw_link(&mut self, link: Link)
         requires left { link.left < self.old.board.now.counts.concepts }
         requires filler { link.filler < self.old.board.now.counts.concepts }
-        ensures { SessionDrawn K.GradeKind.kind P.Pile.numbers (λ v. ByLink v K.GradeKind.kind (board_of self.old.board.now).done link) self.old self.new }
+        ensures { SessionDrawn K.GradeKind.kind P.Pile.numbers (λ v. ByLink v K.GradeKind.kind (content_of self.old.board.now).done link) self.old self.new }
     {
         for s in 0..self.terms.roles() {
             let role = s as u16;
@@ -188,7 +188,7 @@ impl<'w, 'a, 't, K: GradeKind, P: Pile> Session<'w, 'a, 't, K, P> {
     fn draw_filler(&mut self, implication: Implication, x: u16)
         requires right { implication.right < self.old.board.now.counts.concepts }
         requires by { x < self.old.board.now.counts.concepts }
-        ensures { SessionDrawn K.GradeKind.kind P.Pile.numbers (λ v. ByFiller v K.GradeKind.kind (board_of self.old.board.now).done implication x (slice_index_or v.concepts x atomic)) self.old self.new }
+        ensures { SessionDrawn K.GradeKind.kind P.Pile.numbers (λ v. ByFiller v K.GradeKind.kind (content_of self.old.board.now).done implication x (slice_index_or v.concepts x atomic)) self.old self.new }
     {
         if let Concept::Restriction(r, b) = concept_at(self.terms, x) {
             if b == implication.left {
@@ -211,7 +211,7 @@ impl<'w, 'a, 't, K: GradeKind, P: Pile> Session<'w, 'a, 't, K, P> {
     /// Draws all that an implication job draws.
     pub(super) fn draw_implication(&mut self, implication: Implication)
         requires { implication.right < self.old.board.now.counts.concepts }
-        ensures { SessionDrawn K.GradeKind.kind P.Pile.numbers (λ v. ByImplication v K.GradeKind.kind (board_of self.old.board.now).done implication) self.old self.new }
+        ensures { SessionDrawn K.GradeKind.kind P.Pile.numbers (λ v. ByImplication v K.GradeKind.kind (content_of self.old.board.now).done implication) self.old self.new }
     {
         // By number, as the concepts of `draw_concepts`.
         for x in 0..self.terms.concepts().len() {

@@ -1,6 +1,6 @@
 //! What an own job draws: the rules that have one premise, and the rule of conjunctions.
 ghost use Rattle.std.specs.Prelude.{◌<◌, length};
-ghost use Rattle.board.specs.Views.{board_of};
+ghost use Rattle.board.specs.Views.{content_of};
 ghost use Rattle.board.specs.Sessions.{SessionDrawn};
 ghost use Rattle.board.specs.OwnDraws.{AnyBelow, ByStated, ByPair, ByConcept, ByParts, ByOwn};
 
@@ -40,7 +40,7 @@ impl<'w, 'a, 't, K: GradeKind, P: Pile> Session<'w, 'a, 't, K, P> {
         requires left { known.left < self.old.board.now.counts.concepts }
         requires right { x < self.old.board.now.counts.concepts }
         requires far { far < self.old.board.now.counts.concepts }
-        ensures { SessionDrawn K.GradeKind.kind P.Pile.numbers (λ _. ByPair K.GradeKind.kind (board_of self.old.board.now).done known x near far) self.old self.new }
+        ensures { SessionDrawn K.GradeKind.kind P.Pile.numbers (λ _. ByPair K.GradeKind.kind (content_of self.old.board.now).done known x near far) self.old self.new }
     {
         if near == known.right {
             let h = self.board.done(Job::Own(known.left, far));
@@ -52,7 +52,7 @@ impl<'w, 'a, 't, K: GradeKind, P: Pile> Session<'w, 'a, 't, K, P> {
     fn draw_concept(&mut self, known: Known, x: u16)
         requires left { known.left < self.old.board.now.counts.concepts }
         requires right { x < self.old.board.now.counts.concepts }
-        ensures { SessionDrawn K.GradeKind.kind P.Pile.numbers (λ v. ByConcept v K.GradeKind.kind (board_of self.old.board.now).done known x) self.old self.new }
+        ensures { SessionDrawn K.GradeKind.kind P.Pile.numbers (λ v. ByConcept v K.GradeKind.kind (content_of self.old.board.now).done known x) self.old self.new }
     {
         match concept_at(self.terms, x) {
             Concept::Atomic => {}
@@ -76,7 +76,7 @@ impl<'w, 'a, 't, K: GradeKind, P: Pile> Session<'w, 'a, 't, K, P> {
     /// Draws by the concepts, each by what it is made of.
     fn draw_concepts(&mut self, known: Known)
         requires { known.left < self.old.board.now.counts.concepts }
-        ensures { SessionDrawn K.GradeKind.kind P.Pile.numbers (λ v. AnyBelow (length v.concepts) (ByConcept v K.GradeKind.kind (board_of self.old.board.now).done known)) self.old self.new }
+        ensures { SessionDrawn K.GradeKind.kind P.Pile.numbers (λ v. AnyBelow (length v.concepts) (ByConcept v K.GradeKind.kind (content_of self.old.board.now).done known)) self.old self.new }
     {
         // By number: the concept beside it would be one more parameter, with a clause that it is the concept of that number.
         for x in 0..self.terms.concepts().len() {
@@ -104,7 +104,7 @@ impl<'w, 'a, 't, K: GradeKind, P: Pile> Session<'w, 'a, 't, K, P> {
     pub(super) fn draw_own(&mut self, known: Known)
         requires left { known.left < self.old.board.now.counts.concepts }
         requires right { known.right < self.old.board.now.counts.concepts }
-        ensures { SessionDrawn K.GradeKind.kind P.Pile.numbers (λ v. ByOwn v K.GradeKind.kind (board_of self.old.board.now).done known) self.old self.new }
+        ensures { SessionDrawn K.GradeKind.kind P.Pile.numbers (λ v. ByOwn v K.GradeKind.kind (content_of self.old.board.now).done known) self.old self.new }
     {
         self.draw_stated(known);
         self.draw_parts(known);

@@ -2,7 +2,7 @@
 ghost use Rattle.std.specs.Prelude.{◌≡◌, ◌<◌, ◌≤◌, length};
 ghost use Rattle.terms.specs.Views.{terms_of};
 ghost use Rattle.saturation.specs.declared.State.TheVariants.{Held};
-ghost use Rattle.board.specs.Views.{board_of};
+ghost use Rattle.board.specs.Views.{content_of};
 ghost use Rattle.board.specs.Frames.{Kept};
 ghost use Rattle.board.specs.Raises.{Ready};
 ghost use Rattle.board.specs.Refusals.{IsHeld};
@@ -30,7 +30,7 @@ impl<'w, 'a, 't, K: GradeKind, P: Pile> Session<'w, 'a, 't, K, P> {
     /// Steps at `c`, which is held, until no job waits there or the budget is used, and says how often.
     fn exhaust(&mut self, c: u16, budget: u64) -> u64
         requires left { c < self.old.board.now.counts.concepts }
-        requires held { (board_of self.old.board.now).state c ≡ Held }
+        requires held { (content_of self.old.board.now).state c ≡ Held }
         ensures same { SameSession self.old self.new }
         ensures exhausted { Exhausted (terms_of self.old.terms.now) K.GradeKind.kind P.Pile.numbers c budget result self.old.board.now self.old.pile.now self.new.board.now self.new.pile.now }
     {
@@ -44,7 +44,7 @@ impl<'w, 'a, 't, K: GradeKind, P: Pile> Session<'w, 'a, 't, K, P> {
 
     /// Steps at the lease's concept, lowers the lease and rechecks, and says how many steps that took.
     fn turn(&mut self, lease: Lease, budget: u64) -> u64
-        requires { IsHeld self.old.board.now.counts.concepts (board_of self.old.board.now) lease.concept }
+        requires { IsHeld self.old.board.now.counts.concepts (content_of self.old.board.now) lease.concept }
         ensures same { SameSession self.old self.new }
         ensures turned { Turned (terms_of self.old.terms.now) K.GradeKind.kind P.Pile.numbers lease.concept budget result self.old.board.now self.old.pile.now self.new.board.now self.new.pile.now }
     {
@@ -66,7 +66,7 @@ impl<'a, K: GradeKind> OpenBoard<'a, K> {
         budget: u64,
     ) -> u64
         requires ready { Ready (terms_of terms.now) P.Pile.numbers self.old pile.old }
-        requires held { IsHeld self.old.counts.concepts (board_of self.old) lease.concept }
+        requires held { IsHeld self.old.counts.concepts (content_of self.old) lease.concept }
         ensures { Turned (terms_of terms.now) K.GradeKind.kind P.Pile.numbers lease.concept budget result self.old pile.old self.new pile.new }
     {
         let mut session = Session {

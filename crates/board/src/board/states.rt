@@ -2,7 +2,7 @@
 ghost use Rattle.std.specs.Prelude.{◌≡◌, ◌<◌, ◌≤◌, true};
 ghost use Rattle.saturation.specs.declared.State.{State as StateOfConcept};
 ghost use Rattle.board.specs.declared.board.states.Change.TheVariants.{Raise as raising};
-ghost use Rattle.board.specs.Views.{board_of, moment_of};
+ghost use Rattle.board.specs.Views.{content_of, moment_of};
 ghost use Rattle.board.specs.Frames.{Framed, Kept};
 ghost use Rattle.board.specs.Moves.{after, Shifted, Nudged};
 
@@ -30,7 +30,7 @@ impl<'a, K: GradeKind> OpenBoard<'a, K> {
     pub(crate) fn shift(&mut self, c: u16, change: Change) -> bool
         requires { c < self.old.counts.concepts }
         ensures frame { Framed self.old self.new }
-        ensures shifted { Shifted board_of self.old.counts.concepts self.old.counts.roles c (after change ((board_of self.old).state c)) self.old self.new result }
+        ensures shifted { Shifted content_of self.old.counts.concepts self.old.counts.roles c (after change ((content_of self.old).state c)) self.old self.new result }
     {
         let next = match (self.state(c as usize), change) {
             (State::Queued, Change::Take) => State::Held,

@@ -4,7 +4,7 @@ ghost use Rattle.terms.specs.Views.{terms_of};
 ghost use Rattle.reasoning.specs.Derivations.{Fits, fact_of};
 ghost use Rattle.saturation.specs.declared.State.TheVariants.{Held};
 ghost use Rattle.saturation.specs.Boards.{QuietAt};
-ghost use Rattle.board.specs.Views.{board_of, moment_of};
+ghost use Rattle.board.specs.Views.{content_of, moment_of};
 ghost use Rattle.board.specs.Frames.{Kept};
 ghost use Rattle.board.specs.Raises.{Ready};
 ghost use Rattle.board.specs.JoinDraws.{ByJob};
@@ -27,7 +27,7 @@ impl<'w, 'a, 't, K: GradeKind, P: Pile> Session<'w, 'a, 't, K, P> {
     /// Draws all that a job draws, at the points of a grade.
     fn draw(&mut self, job: Job, grade: u16)
         requires { Fits self.old.board.now.counts.concepts self.old.board.now.counts.roles (fact_of job) }
-        ensures { SessionDrawn K.GradeKind.kind P.Pile.numbers (λ v. ByJob v K.GradeKind.kind (board_of self.old.board.now).done job grade) self.old self.new }
+        ensures { SessionDrawn K.GradeKind.kind P.Pile.numbers (λ v. ByJob v K.GradeKind.kind (content_of self.old.board.now).done job grade) self.old self.new }
     {
         match job {
             Job::Own(left, right) => self.draw_own(Known { left, right, grade }),
@@ -54,10 +54,10 @@ impl<'w, 'a, 't, K: GradeKind, P: Pile> Session<'w, 'a, 't, K, P> {
     /// concept with itself has it as both premises.
     pub(super) fn work(&mut self, c: u16) -> Option<Job>
         requires left { c < self.old.board.now.counts.concepts }
-        requires held { (board_of self.old.board.now).state c ≡ Held }
+        requires held { (content_of self.old.board.now).state c ≡ Held }
         ensures same { SameSession self.old self.new }
         ensures kept { Kept P.Pile.numbers self.old.board.now self.old.pile.now self.new.board.now self.new.pile.now }
-        ensures work { MatchOption result (QuietAt (terms_of self.old.terms.now) (board_of self.old.board.now) c × (self.new.board.now ≡ self.old.board.now) × (self.new.pile.now ≡ self.old.pile.now)) (λ j. Did (terms_of self.old.terms.now) K.GradeKind.kind c j (moment_of P.Pile.numbers self.old.board.now self.old.pile.now) (moment_of P.Pile.numbers self.new.board.now self.new.pile.now)) }
+        ensures work { MatchOption result (QuietAt (terms_of self.old.terms.now) (content_of self.old.board.now) c × (self.new.board.now ≡ self.old.board.now) × (self.new.pile.now ≡ self.old.pile.now)) (λ j. Did (terms_of self.old.terms.now) K.GradeKind.kind c j (moment_of P.Pile.numbers self.old.board.now self.old.pile.now) (moment_of P.Pile.numbers self.new.board.now self.new.pile.now)) }
     {
         let job = self.board.first(self.terms, c)?;
         let grade = self.board.found(fact_of(job));
@@ -79,9 +79,9 @@ impl<'a, K: GradeKind> OpenBoard<'a, K> {
     ) -> Option<Job>
         requires ready { Ready (terms_of terms.now) P.Pile.numbers self.old pile.old }
         requires left { c < length (terms_of terms.now).concepts }
-        requires held { (board_of self.old).state c ≡ Held }
+        requires held { (content_of self.old).state c ≡ Held }
         ensures kept { Kept P.Pile.numbers self.old pile.old self.new pile.new }
-        ensures work { MatchOption result (QuietAt (terms_of terms.now) (board_of self.old) c × (self.new ≡ self.old) × (pile.new ≡ pile.old)) (λ j. Did (terms_of terms.now) K.GradeKind.kind c j (moment_of P.Pile.numbers self.old pile.old) (moment_of P.Pile.numbers self.new pile.new)) }
+        ensures work { MatchOption result (QuietAt (terms_of terms.now) (content_of self.old) c × (self.new ≡ self.old) × (pile.new ≡ pile.old)) (λ j. Did (terms_of terms.now) K.GradeKind.kind c j (moment_of P.Pile.numbers self.old pile.old) (moment_of P.Pile.numbers self.new pile.new)) }
     {
         let mut session = Session {
             board: self,

@@ -1,7 +1,7 @@
 //! Writing one grade.
 ghost use Rattle.std.specs.Prelude.{◌≡◌};
 ghost use Rattle.reasoning.specs.Derivations.{Fits, fact_of};
-ghost use Rattle.board.specs.Views.{board_of};
+ghost use Rattle.board.specs.Views.{content_of};
 ghost use Rattle.board.specs.Frames.{Framed};
 ghost use Rattle.board.specs.Moves.{Wrote, Marked};
 
@@ -14,7 +14,7 @@ impl<'a, K: GradeKind> OpenBoard<'a, K> {
     pub(crate) fn write_found(&mut self, fact: Fact, g: u16)
         requires { Fits self.old.counts.concepts self.old.counts.roles fact }
         ensures frame { Framed self.old self.new }
-        ensures wrote { Wrote self.old.counts.concepts self.old.counts.roles fact g (board_of self.old) (board_of self.new) }
+        ensures wrote { Wrote self.old.counts.concepts self.old.counts.roles fact g (content_of self.old) (content_of self.new) }
     {
         let at = self.counts.spot(fact);
         self.words[at] = g;
@@ -25,7 +25,7 @@ impl<'a, K: GradeKind> OpenBoard<'a, K> {
     pub(crate) fn write_done(&mut self, job: Job, g: u16)
         requires { Fits self.old.counts.concepts self.old.counts.roles (fact_of job) }
         ensures frame { Framed self.old self.new }
-        ensures marked { Marked self.old.counts.concepts self.old.counts.roles job g (board_of self.old) (board_of self.new) }
+        ensures marked { Marked self.old.counts.concepts self.old.counts.roles job g (content_of self.old) (content_of self.new) }
     {
         let at = self.counts.mark(job);
         self.words[at] = g;

@@ -2,7 +2,7 @@
 //! the list that an accepted question fills.
 ghost use Rattle.std.specs.Prelude.{◌≡◌, take, IfOk};
 ghost use Rattle.terms.specs.Views.{terms_of};
-ghost use Rattle.board.specs.Views.{closed_of};
+ghost use Rattle.board.specs.Views.{content_of};
 ghost use Rattle.board.specs.declared.reader.asking.Question.TheVariants as asking;
 ghost use Rattle.board.specs.Questions.{SettledOr, Under, Filled, UnderTruth, ListTruth};
 
@@ -17,7 +17,7 @@ use terms::terms::Terms;
 impl<'a, K: GradeKind> ClosedBoard<'a, K> {
     /// Tests that the terms have the board's counts, and that no job waits.
     fn settled(&self, terms: &Terms) -> Result<(), Rejection>
-        ensures { SettledOr (terms_of terms.now) self.now.counts.concepts self.now.counts.roles (closed_of self.now) result }
+        ensures { SettledOr (terms_of terms.now) self.now.counts.concepts self.now.counts.roles (content_of self.now) result }
     {
         if !self.counts.go_with(terms) {
             return Err(Rejection::OtherTerms);
@@ -30,8 +30,8 @@ impl<'a, K: GradeKind> ClosedBoard<'a, K> {
 
     /// The grade of "a under d", where a is a named concept.
     pub fn under(&self, terms: &Terms, a: u16, d: u16) -> Result<u16, Rejection>
-        ensures answer { Under (terms_of terms.now) self.now.counts.concepts self.now.counts.roles (closed_of self.now) a d result }
-        ensures truth { IfOk result (UnderTruth (terms_of terms.now) K.GradeKind.kind (closed_of self.now) a d) }
+        ensures answer { Under (terms_of terms.now) self.now.counts.concepts self.now.counts.roles (content_of self.now) a d result }
+        ensures truth { IfOk result (UnderTruth (terms_of terms.now) K.GradeKind.kind (content_of self.now) a d) }
     {
         self.settled(terms)?;
         if !terms.is_named(a) || usize::from(d) >= self.counts.concepts {
@@ -49,8 +49,8 @@ impl<'a, K: GradeKind> ClosedBoard<'a, K> {
         point: u8,
         list: &mut [u16],
     ) -> Result<usize, Rejection>
-        ensures answer { Filled question (terms_of terms.now) K.GradeKind.kind self.now.counts.concepts self.now.counts.roles (closed_of self.now) a point list.old list.new result }
-        ensures truth { IfOk result (λ n. ListTruth question (terms_of terms.now) K.GradeKind.kind (closed_of self.now) a point (take n list.new)) }
+        ensures answer { Filled question (terms_of terms.now) K.GradeKind.kind self.now.counts.concepts self.now.counts.roles (content_of self.now) a point list.old list.new result }
+        ensures truth { IfOk result (λ n. ListTruth question (terms_of terms.now) K.GradeKind.kind (content_of self.now) a point (take n list.new)) }
     {
         self.settled(terms)?;
         if !terms.is_named(a) {
@@ -86,8 +86,8 @@ impl<'a, K: GradeKind> ClosedBoard<'a, K> {
         point: u8,
         list: &mut [u16],
     ) -> Result<usize, Rejection>
-        ensures answer { Filled asking.Mates (terms_of terms.now) K.GradeKind.kind self.now.counts.concepts self.now.counts.roles (closed_of self.now) a point list.old list.new result }
-        ensures truth { IfOk result (λ n. ListTruth asking.Mates (terms_of terms.now) K.GradeKind.kind (closed_of self.now) a point (take n list.new)) }
+        ensures answer { Filled asking.Mates (terms_of terms.now) K.GradeKind.kind self.now.counts.concepts self.now.counts.roles (content_of self.now) a point list.old list.new result }
+        ensures truth { IfOk result (λ n. ListTruth asking.Mates (terms_of terms.now) K.GradeKind.kind (content_of self.now) a point (take n list.new)) }
     {
         self.fill(terms, Question::Mates, a, point, list)
     }
@@ -100,8 +100,8 @@ impl<'a, K: GradeKind> ClosedBoard<'a, K> {
         point: u8,
         list: &mut [u16],
     ) -> Result<usize, Rejection>
-        ensures answer { Filled asking.Parents (terms_of terms.now) K.GradeKind.kind self.now.counts.concepts self.now.counts.roles (closed_of self.now) a point list.old list.new result }
-        ensures truth { IfOk result (λ n. ListTruth asking.Parents (terms_of terms.now) K.GradeKind.kind (closed_of self.now) a point (take n list.new)) }
+        ensures answer { Filled asking.Parents (terms_of terms.now) K.GradeKind.kind self.now.counts.concepts self.now.counts.roles (content_of self.now) a point list.old list.new result }
+        ensures truth { IfOk result (λ n. ListTruth asking.Parents (terms_of terms.now) K.GradeKind.kind (content_of self.now) a point (take n list.new)) }
     {
         self.fill(terms, Question::Parents, a, point, list)
     }

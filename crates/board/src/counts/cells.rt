@@ -4,7 +4,7 @@ ghost use Rattle.terms.specs.Views.{terms_of};
 ghost use Rattle.reasoning.specs.Derivations.{Fits, fact_of};
 ghost use Rattle.board.specs.Layout.{place, room};
 ghost use Rattle.board.specs.Views.{spot, mark};
-ghost use Rattle.board.specs.Refusals.{SameCounts};
+ghost use Rattle.board.specs.Counts.{SameCounts};
 
 use super::Counts;
 use reasoning::{Fact, Job};
@@ -13,8 +13,7 @@ use terms::terms::Terms;
 impl Counts {
     /// The counts of the terms.
     pub(crate) fn of(terms: &Terms) -> Self
-        ensures concepts { result.concepts ≡ length (terms_of terms.now).concepts }
-        ensures roles { result.roles ≡ (terms_of terms.now).roles }
+        ensures { SameCounts (terms_of terms.now) result.concepts result.roles }
     {
         Counts {
             concepts: terms.concepts().len(),

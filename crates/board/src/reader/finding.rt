@@ -3,9 +3,10 @@ ghost use Rattle.std.specs.Prelude.{◌≡◌, ℕ, ◌+◌, ◌<◌, ◌≤◌,
 ghost use Rattle.terms.specs.Views.{terms_of};
 ghost use Rattle.reasoning.specs.declared.Job.TheVariants.{Imply as imply};
 ghost use Rattle.reasoning.specs.Derivations.{Fits, fact_of};
-ghost use Rattle.saturation.specs.Boards.{Waits, First, QuietAt, Quiet};
+ghost use Rattle.saturation.specs.Boards.{Rests, Waits, First, QuietAt, Quiet};
+ghost use Rattle.board.specs.Counts.{SameCounts};
 ghost use Rattle.board.specs.Views.{read_of};
-ghost use Rattle.board.specs.Searches.{Fitted, job_of, Lies, Rests, NoneBelow, FirstBelow, BestLink, NoImplications, FirstImplication, QuietWhere};
+ghost use Rattle.board.specs.Searches.{job_of, Lies, NoneBelow, FirstBelow, BestLink, NoImplications, FirstImplication, QuietWhere};
 
 use super::Reader;
 use super::cells::fact_of;
@@ -78,7 +79,7 @@ impl<'b> Reader<'b> {
     /// The first job that waits at `c`, on a board with the counts of these terms.
     // That `c` is one of the terms' concepts stays a clause: a type for such a number would have to name the terms.
     pub(crate) fn first(&self, terms: &Terms, c: u16) -> Option<Job>
-        requires fitted { Fitted (terms_of terms.now) self.now }
+        requires fitted { SameCounts (terms_of terms.now) self.now.counts.concepts self.now.counts.roles }
         requires left { c < length (terms_of terms.now).concepts }
         ensures { MatchOption result (QuietAt (terms_of terms.now) (read_of self.now) c) (First (terms_of terms.now) (read_of self.now) c) }
     {
@@ -91,7 +92,7 @@ impl<'b> Reader<'b> {
 
     /// Whether a job waits anywhere, on a board with the counts of these terms.
     pub(crate) fn any_waits(&self, terms: &Terms) -> bool
-        requires { Fitted (terms_of terms.now) self.now }
+        requires { SameCounts (terms_of terms.now) self.now.counts.concepts self.now.counts.roles }
         ensures waits { result ≡ true → Quiet (terms_of terms.now) (read_of self.now) → ⊥ }
         ensures quiet { result ≡ false → Quiet (terms_of terms.now) (read_of self.now) }
     {

@@ -1,6 +1,6 @@
 //! A board that is read together with its terms.
-ghost use Rattle.std.specs.Prelude.{◌≡◌, length};
 ghost use Rattle.terms.specs.Views.{terms_of};
+ghost use Rattle.board.specs.Counts.{SameCounts};
 
 use super::Reader;
 use terms::terms::Terms;
@@ -10,6 +10,5 @@ use terms::terms::Terms;
 pub(crate) struct Reading<'b> {
     pub(crate) reader: Reader<'b>,
     pub(crate) terms: &'b Terms<'b>,
-    ghost concepts: { reader.counts.concepts ≡ length (terms_of terms.now).concepts },
-    ghost roles: { reader.counts.roles ≡ (terms_of terms.now).roles },
+    ghost counts: { SameCounts (terms_of terms.now) reader.counts.concepts reader.counts.roles },
 }

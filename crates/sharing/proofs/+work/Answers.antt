@@ -16,8 +16,8 @@ give_back-requires g t c =
     let step : TookTurns v k numbers c.work.new.board c.work.new.pile c.step.new.self c.step.new.pile =
     stepped v k numbers c.in-Ok.lease c.work.new.board c.work.new.pile c.step.new.self c.step.new.pile c.step.result c.work.ensures.onward.going c.step.ensures.kept c.step.ensures.sane c.step.ensures.stepped in
     let turns = turns_then v k numbers c.work.ensures step in
-    let low = subst (λ n. c.in-Ok.lease.concept < n) c.requires.ready.concepts taken.within in
-    let n = turns.onward.going.ready.concepts in
+    let low = subst (λ n. c.in-Ok.lease.concept < n) c.requires.ready.counts.concepts taken.within in
+    let n = turns.onward.going.ready.counts.concepts in
     record { going = turns.onward.going; held = (omega arith, turns.held c.in-Ok.lease.concept low taken.held) }
 
 pub returns-in_default : goal.returns-in_default

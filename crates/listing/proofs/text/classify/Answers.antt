@@ -11,10 +11,10 @@ returns g c =
     let v = terms_of c.args.terms.now in
     let k = g.K.GradeKind.kind in
     let made = c.make-board.ensures.made c.requires in
-    let wide : c.make-board.result.counts.concepts ≤ (g.P.Pile.numbers c.make-board.new.pile).size = omega (arith, made.concepts, c.make-board.ensures.size, c.requires.wide) in
+    let wide : c.make-board.result.counts.concepts ≤ (g.P.Pile.numbers c.make-board.new.pile).size = omega (arith, made.counts.concepts, c.make-board.ensures.size, c.requires.wide) in
     let end = run_ends k g.met.K.GradeKind.lawful v (well_formed c.args.terms.now) g.P.Pile.numbers c.args.words.now c.make-board.result c.make-board.new.pile c.run.new.self c.run.new.pile c.run.result made wide c.run.ensures.ran in
     let view = sym c.close.ensures.view in
     record {
-      settled = ((c.close.ensures.concepts ∙ c.run.ensures.kept.frame.concepts ∙ made.concepts, c.close.ensures.roles ∙ c.run.ensures.kept.frame.roles ∙ made.roles), subst (λ (b : Board). Quiet v b) view end.0);
+      settled = (record { concepts = c.close.ensures.concepts ∙ c.run.ensures.kept.frame.concepts ∙ made.counts.concepts; roles = c.close.ensures.roles ∙ c.run.ensures.kept.frame.roles ∙ made.counts.roles }, subst (λ (b : Board). Quiet v b) view end.0);
       history = (end.1.0, (g.P.Pile.numbers c.run.new.pile).holds, subst (λ (b : Board). History v k end.1.0 (record { board = b; pile = (g.P.Pile.numbers c.run.new.pile).holds })) view end.1.1);
     }

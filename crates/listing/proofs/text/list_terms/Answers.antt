@@ -3,7 +3,7 @@ use Rattle.std.proofs.lemmas.Result.{err_from_is_err_and}
 use Rattle.terms.specs.Views.{terms_of}
 use Rattle.terms.proofs.Formed.{well_formed}
 use Rattle.piles.specs.Orders.{in_ring}
-use Rattle.board.specs.Views.{closed_of}
+use Rattle.board.specs.Views.{content_of}
 use Rattle.listing.specs.Rows.{code_to_list, all_rows}
 use Rattle.listing.proofs.Ending.{truly_listed, page_room, page_few, no_board, board_listed}
 use Rattle.listing.proofs.text.list_terms.Goals as goal
@@ -24,7 +24,7 @@ pub returns : goal.returns
 returns g c =
     let v = terms_of c.args.terms.now in
     let k = g.K.GradeKind.kind in
-    let b = closed_of c.classify-board.result in
+    let b = content_of c.classify-board.result in
     let n = length c.concepts.result.now in
     let order = c.in_ok-check.ensures in
     let h = c.classify-board.ensures.history in

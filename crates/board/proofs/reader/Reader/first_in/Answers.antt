@@ -1,8 +1,8 @@
 use Rattle.std.proofs.Common.{rules, tests, arith}
 use Rattle.std.proofs.lemmas.Iterator.{first_from_Range}
-use Rattle.saturation.specs.Boards.{Waits}
+use Rattle.saturation.specs.Boards.{Rests, Waits}
 use Rattle.board.specs.Views.{read_of}
-use Rattle.board.specs.Searches.{job_of, Rests}
+use Rattle.board.specs.Searches.{job_of}
 use Rattle.board.proofs.Finding.{first_of}
 use Rattle.board.proofs.reader.Reader.first_in.Goals as goal
 

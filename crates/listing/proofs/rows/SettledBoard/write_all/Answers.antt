@@ -1,6 +1,6 @@
 use Rattle.std.proofs.Common.{ℕ, ◌+◌, ◌*◌, ◌≤◌, List, ◌++◌, length, Option, refl, ap, ◌∙◌, mul-le-mul_left, mul-add, arith}
 use Rattle.terms.specs.Views.{terms_of}
-use Rattle.board.specs.Views.{closed_of}
+use Rattle.board.specs.Views.{content_of}
 use Rattle.listing.specs.Rows.{rows_up_to, all_rows, code_to_list}
 use Rattle.listing.proofs.Rowing.{wrote_more, wrote_same, rows_next}
 use Rattle.listing.proofs.rows.SettledBoard.write_all.Goals as goal
@@ -11,7 +11,7 @@ room n a page l h = let m = mul-le-mul_left (19 * n) l in let e = mul-add (19 * 
 
 pub loop-a-preserved : goal.loop-a-preserved
 loop-a-preserved g c =
-    let grade : ℕ → ℕ → Option ℕ = code_to_list (terms_of c.args.self.now.terms.now) g.K.GradeKind.kind (closed_of c.args.self.now.board.now) in
+    let grade : ℕ → ℕ → Option ℕ = code_to_list (terms_of c.args.self.now.terms.now) g.K.GradeKind.kind (content_of c.args.self.now.board.now) in
     let n = c.args.concepts in
     let a = c.loop-a.a in
     let p = c.new-page.result in

@@ -1,7 +1,7 @@
 use Rattle.std.proofs.Common.{ℕ, ◌+◌, ◌*◌, [], ◌∷◌, ◌++◌, Option, sym, refl, ◌∙◌, arith}
 use Rattle.listing.specs.declared.page.Row.{Row}
 use Rattle.terms.specs.Views.{terms_of}
-use Rattle.board.specs.Views.{closed_of}
+use Rattle.board.specs.Views.{content_of}
 use Rattle.listing.specs.Rows.{rows_up_to, code_to_list}
 use Rattle.listing.proofs.Rowing.{wrote_more, wrote_same, rows_some, rows_none}
 use Rattle.listing.proofs.rows.SettledBoard.write_rows.Goals as goal
@@ -9,7 +9,7 @@ use Rattle.listing.proofs.rows.SettledBoard.write_rows.Goals.{in-Some, in_defaul
 
 pub loop-d-preserved : goal.loop-d-preserved
 loop-d-preserved g c =
-    let grade : ℕ → ℕ → Option ℕ = code_to_list (terms_of c.args.self.now.terms.now) g.K.GradeKind.kind (closed_of c.args.self.now.board.now) in
+    let grade : ℕ → ℕ → Option ℕ = code_to_list (terms_of c.args.self.now.terms.now) g.K.GradeKind.kind (content_of c.args.self.now.board.now) in
     let a = c.args.a in
     let d = c.loop-d.d in
     let p = c.args.page.now in

@@ -1,7 +1,7 @@
 use Rattle.std.proofs.Common.{sym, refl, subst₂, arith}
 use Rattle.terms.specs.Views.{terms_of}
 use Rattle.saturation.specs.Effects.{SameGrades}
-use Rattle.board.specs.Views.{board_of}
+use Rattle.board.specs.Views.{content_of}
 use Rattle.board.specs.Refusals.{RecheckRejected}
 use Rattle.board.proofs.AsStated.{same_sane}
 use Rattle.board.proofs.board.calls.OpenBoard+K.recheck.Goals as goal
@@ -12,7 +12,7 @@ returns-in-Err-clause-rechecked g c = (RecheckRejected.unready c.in-Err.ensures,
 pub returns-then-from-self-clause-rechecked : goal.returns-then-from-self-clause-rechecked
 returns-then-from-self-clause-rechecked g c =
     let R = c.in_default.ensures in
-    (RecheckRejected.unfit_lease (R.concepts, R.roles) R.wide (omega (arith, c.from.ensures)), refl, refl, refl)
+    (RecheckRejected.unfit_lease R.counts R.wide (omega (arith, c.from.ensures)), refl, refl, refl)
 
 pub returns : goal.returns
 returns g c =
@@ -20,5 +20,5 @@ returns g c =
     let a = c.args.self.now in
     let b = c.review.new.self in
     let R = c.in_default.ensures in
-    let G : SameGrades a.counts.concepts a.counts.roles (board_of a) (board_of b) = subst₂ (λ n m. SameGrades n m (board_of a) (board_of b)) (sym R.concepts) (sym R.roles) c.review.ensures.rechecked.grades in
-    record { kept = c.review.ensures.kept; sane = same_sane a.counts.concepts a.counts.roles g.K.GradeKind.kind (board_of a) (board_of b) G; rechecked = (R, c.review.ensures.rechecked) }
+    let G : SameGrades a.counts.concepts a.counts.roles (content_of a) (content_of b) = subst₂ (λ n m. SameGrades n m (content_of a) (content_of b)) (sym R.counts.concepts) (sym R.counts.roles) c.review.ensures.rechecked.grades in
+    record { kept = c.review.ensures.kept; sane = same_sane a.counts.concepts a.counts.roles g.K.GradeKind.kind (content_of a) (content_of b) G; rechecked = (R, c.review.ensures.rechecked) }

@@ -13,7 +13,7 @@ returns-then-is_some g c =
       kept = c.queue.ensures.kept;
       rechecked = rechecked_queued (terms_of c.args.terms.now) c.args.self.now.counts.concepts c.args.self.now.counts.roles c.args.c job.0
           (moment_of g.P.Pile.numbers c.args.self.now c.args.pile.now) (moment_of g.P.Pile.numbers c.queue.new.self c.queue.new.pile)
-          c.requires.ready.concepts c.requires.ready.roles c.queue.ensures.nudged c.requires.left job.1;
+          c.requires.ready.counts.concepts c.requires.ready.counts.roles c.queue.ensures.nudged c.requires.left job.1;
     }
 
 pub returns-else-is_some : goal.returns-else-is_some

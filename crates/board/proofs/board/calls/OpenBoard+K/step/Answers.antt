@@ -2,7 +2,7 @@ use Rattle.std.proofs.Common.{length, sym, refl, subst, subst₂}
 use Rattle.std.proofs.lemmas.Result.{err_from_is_err_and}
 use Rattle.terms.specs.Views.{terms_of}
 use Rattle.saturation.specs.Boards.{Sane}
-use Rattle.board.specs.Views.{board_of, moment_of}
+use Rattle.board.specs.Views.{content_of, moment_of}
 use Rattle.rejections.specs.declared.Rejection.TheVariants.{NothingWaits}
 use Rattle.board.specs.Refusals.{StepRejected}
 use Rattle.board.specs.Calls.{StaysSane, Stepped}
@@ -20,7 +20,7 @@ returns-in_err-admit g c =
 pub returns-then-not-is_held : goal.returns-then-not-is_held
 returns-then-not-is_held g c =
     let R = c.in_ok-admit.ensures in
-    record { kept = kept_same; sane = λ S. S; stepped = (StepRejected.unfit_lease (R.concepts, R.roles) R.wide (c.if-not-is_held.ensures.free refl), refl, refl) }
+    record { kept = kept_same; sane = λ S. S; stepped = (StepRejected.unfit_lease R.counts R.wide (c.if-not-is_held.ensures.free refl), refl, refl) }
 
 pub returns : goal.returns
 returns g c =
@@ -35,13 +35,13 @@ returns g c =
     let A = moment_of numbers a c.args.pile.now in
     let B = moment_of numbers b q in
     let R = c.in_ok-admit.ensures in
-    let to : Sane a.counts.concepts a.counts.roles k (board_of a) → Sane (length v.concepts) v.roles k (board_of a) = subst₂ (λ n m. Sane n m k (board_of a)) R.concepts R.roles in
+    let to : Sane a.counts.concepts a.counts.roles k (content_of a) → Sane (length v.concepts) v.roles k (content_of a) = subst₂ (λ n m. Sane n m k (content_of a)) R.counts.concepts R.counts.roles in
     let both : StaysSane k a b × Stepped v k numbers c.args.lease.now a c.args.pile.now b q c.ok_or.result =
     subst (λ r. StaysSane k a b × Stepped v k numbers c.args.lease.now a c.args.pile.now b q r) (sym c.ok_or.ensures.value)
     (ok_or_cases (λ r. StaysSane k a b × Stepped v k numbers c.args.lease.now a c.args.pile.now b q r) c.work.result NothingWaits c.work.ensures.work
-    (λ W. (sane_is W.1 k, (StepRejected.nothing_waits (R.concepts, R.roles) R.wide (c.if-not-is_held.ensures.held refl) W.0, W.1, W.2)))
+    (λ W. (sane_is W.1 k, (StepRejected.nothing_waits R.counts R.wide (c.if-not-is_held.ensures.held refl) W.0, W.1, W.2)))
     (λ j D. (
-      λ S. subst₂ (λ n m. Sane n m k (board_of b)) (sym R.concepts) (sym R.roles) (still_sane v k L x j A B D (to S)),
+      λ S. subst₂ (λ n m. Sane n m k (content_of b)) (sym R.counts.concepts) (sym R.counts.roles) (still_sane v k L x j A B D (to S)),
       (R, λ S. as_stated v k L x j A B D (to S)),
     ))) in
     record { kept = c.work.ensures.kept; sane = both.0; stepped = both.1 }

@@ -18,14 +18,12 @@ returns g c =
     let none : c.none.result ≡ g.K.GradeKind.kind.none = c.none.ensures in
     record {
       blank = record {
-        concepts = en;
-        roles = em;
+        counts = c.of-counts.ensures;
         found = λ f w. let u : Fits n m f = subst₂ (λ x y. Fits x y f) (sym en) (sym em) w in let s = spot_inside n m f u in F.inside (spot n f) s.0 (omega (arith, s.1)) ∙ none;
         done = λ j w. let u : Fits n m (fact_of j) = subst₂ (λ x y. Fits x y (fact_of j)) (sym en) (sym em) w in let s = mark_inside n m j u in F.inside (mark n m j) s.0 (omega (arith, s.1)) ∙ none;
         state = λ x h. ap state_of (F.before x (omega arith) ∙ c.fill.ensures.inside x (omega arith) (omega arith));
         steps = refl;
-        extent = omega arith;
-        further = λ i h. F.past i (omega arith) ∙ c.fill.ensures.past i (omega arith);
+        beyond = record { extent = omega arith; further = λ i h. F.past i (omega arith) ∙ c.fill.ensures.past i (omega arith) };
       };
       lent = refl;
     }

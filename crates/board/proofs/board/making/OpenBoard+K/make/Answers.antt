@@ -3,12 +3,12 @@ use Rattle.terms.specs.Views.{terms_of}
 use Rattle.saturation.specs.Boards.{Sane}
 use Rattle.saturation.specs.Effects.{Made}
 use Rattle.board.specs.Layout.{room}
-use Rattle.board.specs.Views.{board_of, moment_of}
+use Rattle.board.specs.Views.{content_of, moment_of}
 use Rattle.board.proofs.Beginning.{begun_all, made_sane, not_in_order}
 use Rattle.board.proofs.board.making.OpenBoard+K.make.Goals as goal
 
 pub returns-in-Err-clause-made : goal.returns-in-Err-clause-made
-returns-in-Err-clause-made g c = λ O. absurd (not_in_order (terms_of c.args.terms.now) g.K.GradeKind.kind (length c.args.words.now) (g.P.Pile.numbers c.args.pile.now) O c.in-Err.ensures)
+returns-in-Err-clause-made g c = λ O. absurd (not_in_order O c.in-Err.ensures)
 
 pub returns-clause-made : goal.returns-clause-made
 returns-clause-made g c =
@@ -24,13 +24,16 @@ returns-clause-made g c =
     let e : c.loop-a.a ≡ length v.concepts = omega (arith, ap length c.concepts-a-end.ensures) in
     let M : Made v k (moment_of numbers b q) = begun_all v k numbers c.loop-a.a b q e B in
     λ _. record {
-      concepts = B.concepts;
-      roles = B.roles;
+      counts = B.counts;
       made = M;
-      sane = subst₂ (λ n m. Sane n m k (board_of b)) (sym B.concepts) (sym B.roles) (made_sane v k g.met.K.GradeKind.lawful (moment_of numbers b q) M);
-      extent = K.frame.extent ∙ Z.extent;
-      further = λ i h. let h' : room first.counts.concepts first.counts.roles ≤ i = subst₂ (λ n m. room n m ≤ i) K.frame.concepts K.frame.roles h in K.frame.further i h' ∙ Z.further i h';
+      sane = subst₂ (λ n m. Sane n m k (content_of b)) (sym B.counts.concepts) (sym B.counts.roles) (made_sane v k g.met.K.GradeKind.lawful (moment_of numbers b q) M);
+      beyond = record {
+        extent = K.frame.beyond.extent ∙ Z.beyond.extent;
+        further = λ i h.
+            let h' : room first.counts.concepts first.counts.roles ≤ i = subst₂ (λ n m. room n m ≤ i) K.frame.concepts K.frame.roles h in
+            K.frame.beyond.further i h' ∙ Z.beyond.further i h';
+      };
     }
 
 pub returns-clause-empty : goal.returns-clause-empty
-returns-clause-empty g c = λ e R. absurd (not_in_order (terms_of c.args.terms.now) g.K.GradeKind.kind (length c.args.words.now) (g.P.Pile.numbers c.args.pile.now) c.in_default.ensures R)
+returns-clause-empty g c = λ e R. absurd (not_in_order c.in_default.ensures R)

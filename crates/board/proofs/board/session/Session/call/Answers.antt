@@ -33,7 +33,7 @@ returns-in-Restriction-clause-called g c =
     subst (λ f. Called v f A B) (sym c.in-Under.is)
     (called_two v (under n d) s.board.now.counts.concepts s.board.now.counts.roles c.queue.new.self.counts.concepts c.queue.new.self.counts.roles n b
     A M B
-    s.ready.concepts s.ready.roles (c.queue.ensures.kept.frame.concepts ∙ s.ready.concepts) (c.queue.ensures.kept.frame.roles ∙ s.ready.roles)
+    s.ready.counts.concepts s.ready.counts.roles (c.queue.ensures.kept.frame.concepts ∙ s.ready.counts.concepts) (c.queue.ensures.kept.frame.roles ∙ s.ready.counts.roles)
     c.queue.ensures.nudged c.queue-in-Restriction.ensures.nudged (left_works v n d w) (filler_works v n d r b w i)
     (λ x u. ⊎_elim inl (λ t. inr (one_filler t.1.1 i.1)) (works_under v n d x u))
     w.0 (filler_below v (well_formed s.terms.now) d r b i))
@@ -51,7 +51,7 @@ returns-in_default g c =
       same = record { board = refl; pile = refl; terms = refl };
       kept = c.queue.ensures.kept;
       called = subst (λ f. Called v f A B) (sym c.in-Under.is) (called_one v (under n d) s.board.now.counts.concepts s.board.now.counts.roles n A B
-          s.ready.concepts s.ready.roles
+          s.ready.counts.concepts s.ready.counts.roles
           c.queue.ensures.nudged (left_works v n d w)
           (λ x u. ⊎_elim (λ e. e) (λ t. absurd (c.in_default.not-Restriction t.0 x (c.concept_at.ensures ∙ t.1.1))) (works_under v n d x u)) w.0);
     }
@@ -67,4 +67,4 @@ returns-in-Implies-clause-called g c =
     let A : Moment = moment_of g.P.Pile.numbers s.board.now s.pile.now in
     let B : Moment = moment_of g.P.Pile.numbers c.queue-in-Implies.new.self c.queue-in-Implies.new.pile in
     subst (λ f. Called v f A B) (sym c.in-Implies.is) (called_one v (implies r n e) s.board.now.counts.concepts s.board.now.counts.roles n A B
-    s.ready.concepts s.ready.roles c.queue-in-Implies.ensures.nudged (premise_works v r n e w) (works_implies v r n e) w.1)
+    s.ready.counts.concepts s.ready.counts.roles c.queue-in-Implies.ensures.nudged (premise_works v r n e w) (works_implies v r n e) w.1)

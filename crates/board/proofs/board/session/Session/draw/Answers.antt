@@ -4,7 +4,7 @@ use Rattle.terms.specs.Views.{terms_of}
 use Rattle.terms.proofs.Formed.{well_formed}
 use Rattle.reasoning.specs.declared.Job.TheVariants.{Link as link}
 use Rattle.reasoning.specs.Derivations.{Fits, fact_of}
-use Rattle.board.specs.Views.{board_of}
+use Rattle.board.specs.Views.{content_of}
 use Rattle.board.specs.JoinDraws.{ByJob, ByLinked}
 use Rattle.board.proofs.Raising.{filler_below}
 use Rattle.board.proofs.Sessions.{in_terms, on_board, session_at}
@@ -23,6 +23,6 @@ draw_link-requires g c =
 pub returns-in-Restriction : goal.returns-in-Restriction
 returns-in-Restriction g c =
     let k = g.K.GradeKind.kind in
-    let done = (board_of c.args.self.now.board.now).done in
+    let done = (content_of c.args.self.now.board.now).done in
     session_at (λ v j. ByJob v k done j c.args.grade) (λ _. c.args.job) (sym c.in-Link.is)
     (session_at (λ v κ. ByLinked v k done c.in-Link.left c.args.grade κ) (λ v. get_or v.concepts c.in-Link.right Atomic) c.in-Restriction.ensures c.draw_link.ensures)

@@ -4,7 +4,7 @@ use Rattle.terms.specs.Vocabularies.{Is}
 use Rattle.terms.specs.Views.{terms_of}
 use Rattle.terms.proofs.Formed.{well_formed}
 use Rattle.reasoning.specs.declared.Job.TheVariants.{Own as own}
-use Rattle.board.specs.Views.{board_of}
+use Rattle.board.specs.Views.{content_of}
 use Rattle.board.specs.OwnDraws.{ByShape, ByPair}
 use Rattle.board.proofs.Sessions.{in_terms, on_board, session_at, session_then, session_guarded}
 use Rattle.board.proofs.Shapes.{left_below, right_below, role_below, pair_done}
@@ -32,7 +32,7 @@ pub raise-requires-then-d-known : goal.raise-requires-then-d-known
 raise-requires-then-d-known g c =
     let s = c.args.self.now in
     let l = role_below (terms_of s.terms.now) (well_formed s.terms.now) c.args.x c.in-Restriction.s c.in-Restriction.d (in_terms s c.requires.right, sym c.in-Restriction.ensures) in
-    (omega (arith, l, s.ready.roles), c.requires.left, c.requires.right)
+    (omega (arith, l, s.ready.counts.roles), c.requires.left, c.requires.right)
 
 pub returns-in-Conjunction : goal.returns-in-Conjunction
 returns-in-Conjunction g c =
@@ -44,8 +44,8 @@ returns-in-Conjunction g c =
     let x = c.args.x in
     let d = c.in-Conjunction.d in
     let e = c.in-Conjunction.e in
-    let first = (board_of s.board.now).done in
-    let next = (board_of c.draw_pair.new.self.board.now).done in
+    let first = (content_of s.board.now).done in
+    let next = (content_of c.draw_pair.new.self.board.now).done in
     let at : Is v x (Conjunction d e) = (in_terms s c.requires.right, sym c.in-Conjunction.ensures) in
     let same : next (own o.left d) ≡ first (own o.left d) =
     c.draw_pair.ensures.drawn.raises.done (own o.left d) (in_terms s c.requires.left, left_below v (well_formed s.terms.now) x d e at) in
@@ -56,5 +56,5 @@ pub returns-then-d-known : goal.returns-then-d-known
 returns-then-d-known g c =
     let k = g.K.GradeKind.kind in
     let o = c.args.known in
-    session_at (λ _ κ. ByShape k (board_of c.args.self.now.board.now).done o c.args.x κ) (λ u. get_or u.concepts c.args.x Atomic)
+    session_at (λ _ κ. ByShape k (content_of c.args.self.now.board.now).done o c.args.x κ) (λ u. get_or u.concepts c.args.x Atomic)
     c.in-Restriction.ensures (session_guarded g.met.K.GradeKind.lawful {G = λ _. c.in-Restriction.d ≡ o.right} c.if-d-known.true c.raise-then-d-known.ensures)

@@ -4,7 +4,7 @@ use Rattle.terms.specs.Views.{terms_of}
 use Rattle.terms.proofs.Formed.{well_formed}
 use Rattle.reasoning.specs.declared.Job.{Job}
 use Rattle.reasoning.specs.Derivations.{Within, fact_of}
-use Rattle.board.specs.Views.{board_of}
+use Rattle.board.specs.Views.{content_of}
 use Rattle.board.specs.OwnDraws.{AnyBelow}
 use Rattle.board.specs.JoinDraws.{ByRole}
 use Rattle.board.proofs.Sessions.{session_guarded, session_then, session_none}
@@ -18,8 +18,8 @@ returns-then-is_below g c =
     let L = g.met.K.GradeKind.lawful in
     let ps = c.args.partners in
     let j = c.args.join in
-    let first = (board_of c.args.self.now.board.now).done in
-    let next = (board_of c.draw_partners.new.self.board.now).done in
+    let first = (content_of c.args.self.now.board.now).done in
+    let next = (content_of c.draw_partners.new.self.board.now).done in
     let same : (i : Job) → Within v (fact_of i) → next i ≡ first i = c.draw_partners.ensures.drawn.raises.done in
     session_then L {Q = λ u. AnyBelow u.roles (ByRole u k first ps j)} (session_guarded L {G = λ u. u.below j.link j.implication ≡ true} (sym c.if-is_below.ensures) c.draw_partners.ensures) c.draw_roles.ensures
     (roles_done v k next first ps j c.requires same) (roles_done v k first next ps j c.requires (λ i h. sym (same i h)))

@@ -5,7 +5,7 @@ use Rattle.reasoning.specs.Derivations.{Within, fact_of}
 use Rattle.board.specs.declared.board.joins.Partners.{Partners}
 use Rattle.board.specs.declared.board.joins.Partners.TheVariants.{Implications}
 use Rattle.board.specs.declared.board.joins.Join.{Join}
-use Rattle.board.specs.Views.{board_of}
+use Rattle.board.specs.Views.{content_of}
 use Rattle.board.specs.JoinDraws.{Placed, ByJoin}
 use Rattle.board.proofs.Sessions.{in_terms, rounds_none, rounds_more, rounds_all}
 use Rattle.board.proofs.JoinRules.{join_done}
@@ -23,8 +23,8 @@ loop-s-preserved g c =
     let s = c.loop-s.s in
     let j : Join = record { link = l.role; implication = s; grade = l.grade } in
     let ps : Partners = Implications l.left s l.filler in
-    let first = (board_of a.board.now).done in
-    let next = (board_of c.loop-s.self.board.now).done in
+    let first = (content_of a.board.now).done in
+    let next = (content_of c.loop-s.self.board.now).done in
     let same : (i : Job) → Within v (fact_of i) → next i ≡ first i = c.loop-s.invariant.drawn.raises.done in
     let placed : Placed v ps = (in_terms a c.requires.left, omega arith, in_terms a c.requires.filler) in
     rounds_more g.met.K.GradeKind.lawful {P = λ u i. ByJoin u k first (Implications l.left i l.filler) (record { link = l.role; implication = i; grade = l.grade })} c.loop-s.invariant c.draw_join.ensures
@@ -35,4 +35,4 @@ returns g c =
     let a = c.args.self.now in
     let l = c.args.link in
     let e : c.loop-s.s ≡ (terms_of a.terms.now).roles = omega arith in
-    rounds_all {P = λ u i. ByJoin u g.K.GradeKind.kind (board_of a.board.now).done (Implications l.left i l.filler) (record { link = l.role; implication = i; grade = l.grade })} {n = λ u. u.roles} e c.loop-s.invariant
+    rounds_all {P = λ u i. ByJoin u g.K.GradeKind.kind (content_of a.board.now).done (Implications l.left i l.filler) (record { link = l.role; implication = i; grade = l.grade })} {n = λ u. u.roles} e c.loop-s.invariant

@@ -2,7 +2,7 @@ use Rattle.std.proofs.Common.{◌≡◌, ℕ, ◌<◌, length, sym}
 use Rattle.terms.specs.Views.{terms_of}
 use Rattle.terms.proofs.Formed.{well_formed}
 use Rattle.reasoning.specs.declared.Job.TheVariants.{Own as own}
-use Rattle.board.specs.Views.{board_of}
+use Rattle.board.specs.Views.{content_of}
 use Rattle.board.specs.OwnDraws.{AnyBelow, ByParts, ByConcept}
 use Rattle.board.proofs.Sessions.{in_terms, session_then}
 use Rattle.board.proofs.Shapes.{concept_done}
@@ -16,8 +16,8 @@ returns g c =
     let L = g.met.K.GradeKind.lawful in
     let W = well_formed s.terms.now in
     let o = c.args.known in
-    let first = (board_of s.board.now).done in
-    let next = (board_of c.draw_parts.new.self.board.now).done in
+    let first = (content_of s.board.now).done in
+    let next = (content_of c.draw_parts.new.self.board.now).done in
     let both = session_then L {Q = λ u. ByParts u k o} c.draw_stated.ensures c.draw_parts.ensures (λ f p h. h) (λ f p h. h) in
     let e : (x : ℕ) → x < length v.concepts → next (own o.left x) ≡ first (own o.left x) = λ x h. both.drawn.raises.done (own o.left x) (in_terms s c.requires.left, h) in
     session_then L {Q = λ u. AnyBelow (length u.concepts) (ByConcept u k first o)} both c.draw_concepts.ensures

@@ -1,5 +1,5 @@
 use Rattle.std.proofs.Common.{ap, ◌∙◌}
-use Rattle.board.specs.Views.{board_of}
+use Rattle.board.specs.Views.{content_of}
 use Rattle.board.specs.Raises.{Gains}
 use Rattle.board.specs.JoinDraws.{partner, conclusion}
 use Rattle.board.proofs.Sessions.{session_at}
@@ -10,7 +10,7 @@ returns-then-met-none g c =
     let k = g.K.GradeKind.kind in
     let f = conclusion c.args.partners c.args.head c.args.i in
     let D =
-    session_at (λ _ u. Gains k f u) (λ _. k.meet c.args.grade ((board_of c.args.self.now.board.now).done (partner c.args.partners c.args.i)))
-    (c.meet-met.ensures ∙ ap (k.meet c.args.grade) (c.done.ensures ∙ ap (board_of c.args.self.now.board.now).done c.job.ensures))
+    session_at (λ _ u. Gains k f u) (λ _. k.meet c.args.grade ((content_of c.args.self.now.board.now).done (partner c.args.partners c.args.i)))
+    (c.meet-met.ensures ∙ ap (k.meet c.args.grade) (c.done.ensures ∙ ap (content_of c.args.self.now.board.now).done c.job.ensures))
     (session_at (λ _ h. Gains k h c.meet-met.result) (λ _. f) c.fact.ensures c.raise.ensures) in
     record { same = record { board = D.same.board; pile = D.same.pile; terms = D.same.terms }; drawn = D.drawn }

@@ -4,7 +4,7 @@ use Rattle.terms.specs.Views.{terms_of}
 use Rattle.reasoning.specs.declared.Job.{Job}
 use Rattle.reasoning.specs.Derivations.{Within, fact_of}
 use Rattle.board.specs.declared.board.joins.Head.TheVariants.{Through}
-use Rattle.board.specs.Views.{board_of}
+use Rattle.board.specs.Views.{content_of}
 use Rattle.board.specs.JoinDraws.{ByRole}
 use Rattle.board.specs.Sessions.{SessionDrawn}
 use Rattle.board.proofs.Sessions.{session_alike, session_moved, session_none, rounds_none, rounds_more, rounds_all}
@@ -24,9 +24,9 @@ loop-t-preserved g c =
     let ps = c.args.partners in
     let j = c.args.join in
     let t = c.loop-t.t in
-    let first = (board_of c.args.self.now.board.now).done in
+    let first = (content_of c.args.self.now.board.now).done in
     let a = c.loop-t.self in
-    let next = (board_of a.board.now).done in
+    let next = (content_of a.board.now).done in
     let I = c.loop-t.invariant in
     let same : (i : Job) → Within v (fact_of i) → next i ≡ first i = I.drawn.raises.done in
     let turn : SessionDrawn k N (λ _. ByRole v k first ps j t) a c.if-is_below.self =
@@ -50,4 +50,4 @@ pub returns : goal.returns
 returns g c =
     let s = c.args.self.now in
     let e : c.loop-t.t ≡ (terms_of s.terms.now).roles = omega arith in
-    rounds_all {P = λ u. ByRole u g.K.GradeKind.kind (board_of s.board.now).done c.args.partners c.args.join} {n = λ u. u.roles} e c.loop-t.invariant
+    rounds_all {P = λ u. ByRole u g.K.GradeKind.kind (content_of s.board.now).done c.args.partners c.args.join} {n = λ u. u.roles} e c.loop-t.invariant

@@ -1,7 +1,7 @@
 use Rattle.std.proofs.Common.{subst, arith}
 use Rattle.terms.specs.Views.{terms_of}
 use Rattle.saturation.specs.Boards.{QuietAt}
-use Rattle.board.specs.Views.{board_of, moment_of}
+use Rattle.board.specs.Views.{content_of, moment_of}
 use Rattle.board.specs.Deeds.{Did}
 use Rattle.board.proofs.Options.{some_of, none_of}
 use Rattle.board.proofs.Running.{ongoing_none, ongoing_more, ongoing_quiet, ongoing_spent}
@@ -37,7 +37,7 @@ returns-then-is_none g c =
     let d = c.work.new.self in
     let I = c.loop-steps.invariant in
     let W = none_of _ c.work.result c.if-is_none.ensures c.work.ensures.work in
-    let Q : QuietAt (terms_of s.terms.now) (board_of b.board.now) c.args.c = subst (λ t. QuietAt (terms_of t) (board_of b.board.now) c.args.c) I.same.terms W.0 in
+    let Q : QuietAt (terms_of s.terms.now) (content_of b.board.now) c.args.c = subst (λ t. QuietAt (terms_of t) (content_of b.board.now) c.args.c) I.same.terms W.0 in
     record {
       same = same_then I.same c.work.ensures.same;
       exhausted = ongoing_quiet (terms_of s.terms.now) g.K.GradeKind.kind g.met.K.GradeKind.lawful g.P.Pile.numbers c.args.c s.board.now s.pile.now s.ready

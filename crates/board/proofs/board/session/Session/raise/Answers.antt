@@ -2,7 +2,7 @@ use Rattle.std.proofs.Common.{◌≡◌, length, sym, refl, ap, ◌∙◌, subst
 use Rattle.board.specs.Moves.{Wrote}
 use Rattle.terms.specs.Views.{terms_of}
 use Rattle.terms.proofs.Formed.{well_formed}
-use Rattle.board.specs.Views.{board_of, moment_of}
+use Rattle.board.specs.Views.{content_of, moment_of}
 use Rattle.board.proofs.Frames.{kept_framed}
 use Rattle.board.proofs.Raising.{raises_new, seated}
 use Rattle.board.proofs.Sessions.{within_terms}
@@ -17,10 +17,10 @@ returns-then-new-old g c =
     let b = c.write_found.new.self in
     let f = c.args.fact in
     let held = g.P.Pile.numbers in
-    let new : c.join-new.result ≡ k.join ((board_of a).found f) c.args.g = c.join-new.ensures ∙ ap (λ u. k.join u c.args.g) c.found-old.ensures in
-    let wrote : Wrote (length v.concepts) v.roles f (k.join ((board_of a).found f) c.args.g) (board_of a) (board_of b) =
-    subst (λ u. Wrote (length v.concepts) v.roles f u (board_of a) (board_of b)) new
-    (subst₂ (λ n m. Wrote n m f c.join-new.result (board_of a) (board_of b)) s.ready.concepts s.ready.roles c.write_found.ensures.wrote) in
+    let new : c.join-new.result ≡ k.join ((content_of a).found f) c.args.g = c.join-new.ensures ∙ ap (λ u. k.join u c.args.g) c.found-old.ensures in
+    let wrote : Wrote (length v.concepts) v.roles f (k.join ((content_of a).found f) c.args.g) (content_of a) (content_of b) =
+    subst (λ u. Wrote (length v.concepts) v.roles f u (content_of a) (content_of b)) new
+    (subst₂ (λ n m. Wrote n m f c.join-new.result (content_of a) (content_of b)) s.ready.counts.concepts s.ready.counts.roles c.write_found.ensures.wrote) in
     record {
       same = record { board = c.call.ensures.same.board; pile = c.call.ensures.same.pile; terms = c.call.ensures.same.terms };
       drawn = record {

@@ -5,7 +5,7 @@ use Rattle.terms.specs.Views.{terms_of}
 use Rattle.terms.proofs.Formed.{well_formed}
 use Rattle.terms.proofs.Namings.{named_is, is_named_lem}
 use Rattle.saturation.specs.Answers.{FoundUnder, ListOf}
-use Rattle.board.specs.Views.{closed_of, read_of}
+use Rattle.board.specs.Views.{content_of, read_of}
 use Rattle.board.specs.Asking.{wanted_test, picked}
 use Rattle.board.specs.Questions.{Wanted, answer, unsettled, no_concept, no_point, short_list, ListTruth}
 use Rattle.board.proofs.Questioned.{settled_of, asked_list, list_truth, front_of}
@@ -28,13 +28,13 @@ returns-then-point-points-clause-answer g c =
 pub invariant_of-board : goal.invariant_of-board
 invariant_of-board g c =
     let s = settled_of c.in_ok-settled.was c.settled.ensures in
-    record { concepts = c.reader.ensures.concepts ∙ s.0.0; roles = c.reader.ensures.roles ∙ s.0.1 }
+    record { counts = record { concepts = c.reader.ensures.concepts ∙ s.0.concepts; roles = c.reader.ensures.roles ∙ s.0.roles } }
 
 pub invariant_of-asked : goal.invariant_of-asked
 invariant_of-asked g c =
     let s = settled_of c.in_ok-settled.was c.settled.ensures in
     let i = named_is (terms_of c.args.terms.now) c.args.a (sym c.if-not-is_named.ensures) in
-    omega (arith, i.0, s.0.0, c.reader.ensures.concepts)
+    omega (arith, i.0, s.0.concepts, c.reader.ensures.concepts)
 
 pub returns-then-count-list-clause-answer : goal.returns-then-count-list-clause-answer
 returns-then-count-list-clause-answer g c =
@@ -43,7 +43,7 @@ returns-then-count-list-clause-answer g c =
     let i = named_is v c.args.a (sym c.if-not-is_named.ensures) in
     let r = c.reader.result in
     let xs : List ℕ = picked (wanted_test c.args.question r.counts.concepts v g.K.GradeKind.kind (read_of r) c.args.point c.args.a) r.counts.concepts in
-    let is = asked_list c.args.question v g.K.GradeKind.kind (read_of r) (closed_of c.args.self.now) c.args.point c.args.a r.counts.concepts i c.reader.ensures.view (c.reader.ensures.concepts ∙ s.0.0) in
+    let is = asked_list c.args.question v g.K.GradeKind.kind (read_of r) (content_of c.args.self.now) c.args.point c.args.a r.counts.concepts i c.reader.ensures.view (c.reader.ensures.concepts ∙ s.0.concepts) in
     let point = subst (λ (m : ℕ). c.args.point < m) c.points.ensures c.if-point-points.false in
     short_list refl s i point xs is (subst (λ (m : ℕ). length c.args.list.now < m) c.count_wanted-count.ensures c.if-count-list.true)
 
@@ -51,12 +51,12 @@ pub returns : goal.returns
 returns g c =
     let v = terms_of c.args.terms.now in
     let k = g.K.GradeKind.kind in
-    let b = closed_of c.args.self.now in
+    let b = content_of c.args.self.now in
     let s = settled_of c.in_ok-settled.was c.settled.ensures in
     let i = named_is v c.args.a (sym c.if-not-is_named.ensures) in
     let r = c.reader.result in
     let xs : List ℕ = picked (wanted_test c.args.question r.counts.concepts v k (read_of r) c.args.point c.args.a) r.counts.concepts in
-    let is : ListOf (Wanted c.args.question v (FoundUnder k b c.args.point) c.args.a) xs = asked_list c.args.question v k (read_of r) b c.args.point c.args.a r.counts.concepts i c.reader.ensures.view (c.reader.ensures.concepts ∙ s.0.0) in
+    let is : ListOf (Wanted c.args.question v (FoundUnder k b c.args.point) c.args.a) xs = asked_list c.args.question v k (read_of r) b c.args.point c.args.a r.counts.concepts i c.reader.ensures.view (c.reader.ensures.concepts ∙ s.0.concepts) in
     let point : c.args.point < k.points = subst (λ (m : ℕ). c.args.point < m) c.points.ensures c.if-point-points.false in
     let few : length xs ≤ length c.args.list.now = subst (λ (m : ℕ). m ≤ length c.args.list.now) c.count_wanted-count.ensures c.if-count-list.false in
     let count : c.count_wanted-count.result ≡ length xs = c.count_wanted-count.ensures in

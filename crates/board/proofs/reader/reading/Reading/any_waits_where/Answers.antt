@@ -14,4 +14,4 @@ returns-clause-quiet c e =
     let P = λ (x : ℕ). is_idle (b.state x) ≡ c.args.idle → QuietAt v b x in
     let none = each_of_range P _ n c.any.result
     (cases_from_any _ _ c.any.result (λ x. Unit {0}) P c.any.ensures.ran (YieldsList-from_range 0 n n refl (omega arith)) (λ x q k. tt) (λ x q k. (search (rules, tests), grind (arith, tests)))) e in
-    λ x l. none x (omega (arith, c.args.self.now.concepts))
+    λ x l. none x (omega (arith, c.args.self.now.counts.concepts))

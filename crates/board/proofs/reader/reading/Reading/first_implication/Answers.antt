@@ -16,4 +16,4 @@ returns c =
     let found = first_mapped _ m _ c.find_map.result
     (λ j s. (e : ℕ) × (j ≡ imply s c.args.c e) × FirstBelow b (Implications s c.args.c) n e) (λ s. NoneBelow b (Implications s c.args.c) n)
     refl c.find_map.ensures.runs (λ x a q k. (search (rules, tests), search (rules, tests))) in
-    implication_of (terms_of c.args.self.now.terms.now) b n m c.args.c c.find_map.result c.args.self.now.concepts c.args.self.now.roles found
+    implication_of (terms_of c.args.self.now.terms.now) b n m c.args.c c.find_map.result c.args.self.now.counts.concepts c.args.self.now.counts.roles found
