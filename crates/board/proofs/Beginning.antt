@@ -41,8 +41,10 @@ module _ {X Y : Type 0} (v : Vocabulary) (k : Kind) (numbers : Y → Numbers) wh
 
     pub begun_more : (numbers q).size ≡ (numbers p).size → Begun v k numbers (i + 1) d q
     begun_more r = record {
-      counts = record { concepts = more.concepts ∙ sizes.concepts ∙ B.counts.concepts; roles = more.roles ∙ sizes.roles ∙ B.counts.roles };
-      wide = omega (arith, more.concepts, sizes.concepts, B.wide);
+      ready = record {
+        counts = record { concepts = more.concepts ∙ sizes.concepts ∙ B.ready.counts.concepts; roles = more.roles ∙ sizes.roles ∙ B.ready.counts.roles };
+        wide = omega (arith, more.concepts, sizes.concepts, B.ready.wide);
+      };
       steps = N.grades.steps ∙ W.steps ∙ B.steps;
       started = λ a l at. ⊎_elim (λ e. subst (λ u. (content_of d).found (under u u) ≡ k.all) (sym e) now_found) (λ ne. kept_found (under a a) (at.0, at.0) (other_start a ne) ∙ B.started a (omega arith) at) (cases_eq a i);
       unfound = λ f w n. kept_found f w (n i (omega arith) I) ∙ B.unfound f w (λ a l. n a (omega arith));

@@ -6,13 +6,13 @@ use Rattle.terms.specs.declared.records.Concept.TheVariants.{Restriction}
 use Rattle.reasoning.specs.Derivations.{fact_of, Within, JobAt, at_left, at_filler, at_premise}
 use Rattle.reasoning.specs.declared.Fact.{Fact}
 use Rattle.reasoning.specs.declared.Job.{Job}
-use Rattle.saturation.specs.Boards.{Board, Moment}
+use Rattle.saturation.specs.Boards.{Board, Moment, Stays, InLine}
 use Rattle.saturation.specs.Effects.{SameGrades}
 use Rattle.saturation.specs.declared.State.TheVariants.{Idle, Queued}
 use Rattle.reasoning.specs.declared.Fact.TheVariants.{Under as under, Implies as implies}
 use Rattle.reasoning.specs.declared.Job.TheVariants.{Own as own, Link as link, Imply as imply}
 use Rattle.saturation.proofs.Places.{idle≢queued}
-use Rattle.board.specs.Moves.{Stays, Wakes, Nudged}
+use Rattle.board.specs.Moves.{Wakes, Nudged}
 use Rattle.board.specs.Raises.{Works, Called}
 
 nudge_at : (n m c : ℕ) (a b : Moment) → Nudged n m c a b → (x : ℕ) → x < n → Stays x a b ⊎ (Wakes x a b × (x ≡ c))
@@ -32,27 +32,27 @@ called_one v f n m c a b en em N W only lc =
     let N' : Nudged (length v.concepts) v.roles c a b = subst₂ (λ x y. Nudged x y c a b) en em N in
     record {
       grades = N'.grades;
-      hit = λ x w i. subst (λ u. a.board.state u ≡ Idle → (b.board.state u ≡ Queued) × (b.pile u ≡ true)) (sym (only x w)) N'.here i;
+      hit = λ x w i. subst (λ u. a.board.state u ≡ Idle → InLine u b) (sym (only x w)) N'.here i;
       states = λ x h. ⊎_elim inl (λ w. inr (w.0, subst (λ u. Works v f u) (sym w.1) W)) (nudge_at (length v.concepts) v.roles c a b N' x h);
       beyond = λ x h. N'.rest x (omega arith);
     }
 
 module _ (v : Vocabulary) (f : Fact) (c d : ℕ) (a m b : Moment) (N : Nudged (length v.concepts) v.roles c a m) (M : Nudged (length v.concepts) v.roles d m b)
     (C : Works v f c) (D : Works v f d) where
-  two_queued : (x : ℕ) → x < length v.concepts → (m.board.state x ≡ Queued) × (m.pile x ≡ true) → (b.board.state x ≡ Queued) × (b.pile x ≡ true)
+  two_queued : (x : ℕ) → x < length v.concepts → InLine x m → InLine x b
   two_queued x h q = ⊎_elim (λ s. (s.0 ∙ q.0, s.1 ∙ q.1)) (λ w. absurd (idle≢queued (m.board.state x) w.0.0 q.0)) (nudge_at (length v.concepts) v.roles d m b M x h)
 
-  two_hit : (x : ℕ) → x < length v.concepts → (x ≡ c) ⊎ (x ≡ d) → a.board.state x ≡ Idle → (b.board.state x ≡ Queued) × (b.pile x ≡ true)
-  two_hit x h (inl e) i = two_queued x h (subst (λ u. a.board.state u ≡ Idle → (m.board.state u ≡ Queued) × (m.pile u ≡ true)) (sym e) N.here i)
+  two_hit : (x : ℕ) → x < length v.concepts → (x ≡ c) ⊎ (x ≡ d) → a.board.state x ≡ Idle → InLine x b
+  two_hit x h (inl e) i = two_queued x h (subst (λ u. a.board.state u ≡ Idle → InLine u m) (sym e) N.here i)
   two_hit x h (inr e) i =
-      ⊎_elim (λ s. subst (λ u. m.board.state u ≡ Idle → (b.board.state u ≡ Queued) × (b.pile u ≡ true)) (sym e) M.here (s.0 ∙ i))
-      (λ w. two_queued x h (w.0.1, w.0.2)) (nudge_at (length v.concepts) v.roles c a m N x h)
+      ⊎_elim (λ s. subst (λ u. m.board.state u ≡ Idle → InLine u b) (sym e) M.here (s.0 ∙ i))
+      (λ w. two_queued x h w.0.1) (nudge_at (length v.concepts) v.roles c a m N x h)
 
   two_states : (x : ℕ) → Stays x a m ⊎ (Wakes x a m × (x ≡ c)) → Stays x m b ⊎ (Wakes x m b × (x ≡ d)) → Stays x a b ⊎ (Wakes x a b × Works v f x)
   two_states x (inl s) (inl t) = inl (t.0 ∙ s.0, t.1 ∙ s.1)
-  two_states x (inl s) (inr t) = inr ((sym s.0 ∙ t.0.0, t.0.1, t.0.2), subst (λ u. Works v f u) (sym t.1) D)
-  two_states x (inr s) (inl t) = inr ((s.0.0, t.0 ∙ s.0.1, t.1 ∙ s.0.2), subst (λ u. Works v f u) (sym s.1) C)
-  two_states x (inr s) (inr t) = absurd (idle≢queued (m.board.state x) t.0.0 s.0.1)
+  two_states x (inl s) (inr t) = inr ((sym s.0 ∙ t.0.0, t.0.1), subst (λ u. Works v f u) (sym t.1) D)
+  two_states x (inr s) (inl t) = inr ((s.0.0, (t.0 ∙ s.0.1.0, t.1 ∙ s.0.1.1)), subst (λ u. Works v f u) (sym s.1) C)
+  two_states x (inr s) (inr t) = absurd (idle≢queued (m.board.state x) t.0.0 s.0.1.0)
 
 pub called_two : (v : Vocabulary) (f : Fact) (n m n' m' c d : ℕ) (a t b : Moment) → n ≡ length v.concepts → m ≡ v.roles → n' ≡ length v.concepts → m' ≡ v.roles →
     Nudged n m c a t → Nudged n' m' d t b →

@@ -8,12 +8,12 @@ use Rattle.reasoning.specs.declared.Job.{Job}
 use Rattle.reasoning.specs.declared.Job.TheVariants.{Own as own, Link as link, Imply as imply}
 use Rattle.reasoning.specs.Derivations.{Fits, fact_of, JobAt, at_left, at_filler, at_premise}
 use Rattle.saturation.specs.Boards.{Board, Rests, Waits, First, QuietAt, Before, own_own, own_link, own_imply, link_left, link_right, link_imply, imply_role, imply_right}
-use Rattle.board.specs.declared.reader.finding.Link.{Link}
+use Rattle.board.specs.declared.reader.finding.LinkJob.{LinkJob}
 use Rattle.board.specs.declared.reader.finding.Line.{Line}
 use Rattle.board.specs.declared.reader.finding.Line.TheVariants.{Owns, Links, Implications}
-use Rattle.board.specs.Searches.{job_of, Lies, NoneBelow, FirstBelow, NoLinks, FirstLink, BestLink, NoImplications, FirstImplication}
+use Rattle.board.specs.Searches.{job_of, InRange, NoneBelow, FirstBelow, NoLinks, FirstLink, BestLink, NoImplications, FirstImplication}
 
-pub line_fits : (n m : ℕ) (l : Line) (i : ℕ) → Lies n m l → i < n → Fits n m (fact_of (job_of l i))
+pub line_fits : (n m : ℕ) (l : Line) (i : ℕ) → InRange n m l → i < n → Fits n m (fact_of (job_of l i))
 line_fits n m (Owns c) i h l = (h, l)
 line_fits n m (Links x) i h l = (l, h)
 line_fits n m (Implications s c) i h l = (h.0, h.1, l)
@@ -24,7 +24,7 @@ first_of b l n None h = λ i d. h i (omega arith) d
 first_of b l n (Some i) h = record { below = h.1; waits = h.2; none_before = λ k d. h.3 k (omega arith) d }
 
 -- how far left a better link job has to be, where there are n concepts
-abbrev pub leftmost : ℕ → Option Link → ℕ
+abbrev pub leftmost : ℕ → Option LinkJob → ℕ
 leftmost n None = n
 leftmost n (Some l) = l.left
 
@@ -37,7 +37,7 @@ module _ (v : Vocabulary) (b : Board) (c x : ℕ) where
   links_more n before here y r l = one_more (λ z. (r : ℕ) → Is v z (Restriction r c) → NoneBelow b (Links z) n) (λ z h q. before z q h) here y l r
 
   -- the concept x brings no link job that waits further left
-  pub best_same : (best : Option Link) → BestLink v b c x best → ((r : ℕ) → Is v x (Restriction r c) → NoneBelow b (Links x) (leftmost (length v.concepts) best)) → BestLink v b c (x + 1) best
+  pub best_same : (best : Option LinkJob) → BestLink v b c x best → ((r : ℕ) → Is v x (Restriction r c) → NoneBelow b (Links x) (leftmost (length v.concepts) best)) → BestLink v b c (x + 1) best
   best_same None B here = links_more (length v.concepts) B here
   best_same (Some l) B here = record {
     left = B.left;
@@ -59,12 +59,12 @@ module _ (v : Vocabulary) (b : Board) (c x : ℕ) where
     none_before = λ y q l i. before y q l i a F.below;
   }
 
-  best_new : (best : Option Link) (a r : ℕ) → BestLink v b c x best → Is v x (Restriction r c) → FirstBelow b (Links x) (leftmost (length v.concepts) best) a → FirstLink v b c (x + 1) a x
+  best_new : (best : Option LinkJob) (a r : ℕ) → BestLink v b c x best → Is v x (Restriction r c) → FirstBelow b (Links x) (leftmost (length v.concepts) best) a → FirstLink v b c (x + 1) a x
   best_new None a r B I F = better a r (length v.concepts) (omega arith) B I F
   best_new (Some t) a r B I F = better a r t.left (let l = B.left in omega arith) B.none_left I F
 
   -- what is best of those before and of x
-  pub best_next : (best : Option Link) (n r : ℕ) (found : Option ℕ) → n ≡ leftmost (length v.concepts) best → BestLink v b c x best → Is v x (Restriction r c) → MatchOption found (NoneBelow b (Links x) n) (FirstBelow b (Links x) n) → BestLink v b c (x + 1) (option_or (option_map (λ a. record { left = a; right = x }) found) best)
+  pub best_next : (best : Option LinkJob) (n r : ℕ) (found : Option ℕ) → n ≡ leftmost (length v.concepts) best → BestLink v b c x best → Is v x (Restriction r c) → MatchOption found (NoneBelow b (Links x) n) (FirstBelow b (Links x) n) → BestLink v b c (x + 1) (option_or (option_map (λ a. record { left = a; right = x }) found) best)
   best_next best n r None e B I h = best_same best B (λ q i. rw (sym e) h)
   best_next best n r (Some a) e B I h = best_new best a r B I (rw (sym e) h)
 

@@ -3,7 +3,7 @@ use Rattle.std.proofs.Common.{◌≤◌, sym, refl, ◌∙◌, subst₂, arith}
 use Rattle.piles.specs.Sets.{Numbers}
 use Rattle.terms.specs.Vocabularies.{Vocabulary}
 use Rattle.board.specs.Stages.{OpenBoard}
-use Rattle.board.specs.Layout.{room}
+use Rattle.board.specs.Layout.{words_needed}
 use Rattle.board.specs.Frames.{Framed, Kept}
 use Rattle.board.specs.Raises.{Ready}
 
@@ -17,7 +17,7 @@ framed_then F G = record {
   lent = G.lent ∙ F.lent;
   beyond = record {
     extent = G.beyond.extent ∙ F.beyond.extent;
-    further = λ i h. G.beyond.further i (subst₂ (λ n m. room n m ≤ i) (sym F.concepts) (sym F.roles) h) ∙ F.beyond.further i h;
+    further = λ i h. G.beyond.further i (subst₂ (λ n m. words_needed n m ≤ i) (sym F.concepts) (sym F.roles) h) ∙ F.beyond.further i h;
   };
 }
 

@@ -8,12 +8,12 @@ use Rattle.terms.specs.declared.records.Concept.TheVariants.{Restriction}
 use Rattle.reasoning.specs.Derivations.{fact_of, Within, JobAt}
 use Rattle.reasoning.specs.declared.Fact.{Fact}
 use Rattle.reasoning.specs.declared.Job.{Job}
-use Rattle.saturation.specs.Boards.{Moment}
+use Rattle.saturation.specs.Boards.{Moment, Stays, InLine}
 use Rattle.saturation.specs.declared.State.TheVariants.{Idle, Queued}
 use Rattle.reasoning.specs.declared.Fact.TheVariants.{Under as under, Implies as implies}
 use Rattle.reasoning.proofs.Jobs.{at_within, at_concept}
 use Rattle.saturation.proofs.Places.{idle≢queued}
-use Rattle.board.specs.Moves.{Stays, Wakes, Wrote}
+use Rattle.board.specs.Moves.{Wakes, Wrote}
 use Rattle.board.specs.Raises.{Raises, Touched, Works, Gains, Called}
 
 -- a job stands at a concept of the vocabulary
@@ -75,24 +75,24 @@ module _ (v : Vocabulary) (k : Kind) (L : Lawful k) (J : Seated v) where
     sooner x (j, w, ne) = (j, w, λ e. ne (back (fact_of j) (at_within _ w) e).0)
 
     -- a queued concept stays queued, and in the pile
-    stays_queued : (x : ℕ) → x < length v.concepts → b.board.state x ≡ Queued → b.pile x ≡ true → (c.board.state x ≡ Queued) × (c.pile x ≡ true)
+    stays_queued : (x : ℕ) → x < length v.concepts → b.board.state x ≡ Queued → b.pile x ≡ true → InLine x c
     stays_queued x h q t = ⊎_elim (λ s. (s.0 ∙ q, s.1 ∙ t)) (λ s. absurd (idle≢queued (b.board.state x) s.0.0 q)) (S.states x h)
 
     both_states : (x : ℕ) → x < length v.concepts → Stays x a b ⊎ (Wakes x a b × Touched v a.board b.board x) → Stays x b c ⊎ (Wakes x b c × Touched v b.board c.board x) →
         Stays x a c ⊎ (Wakes x a c × Touched v a.board c.board x)
     both_states x h (inl s) (inl t) = inl (t.0 ∙ s.0, t.1 ∙ s.1)
-    both_states x h (inl s) (inr t) = inr ((sym s.0 ∙ t.0.0, t.0.1, t.0.2), later x t.1)
-    both_states x h (inr s) (inl t) = inr ((s.0.0, t.0 ∙ s.0.1, t.1 ∙ s.0.2), sooner x s.1)
-    both_states x h (inr s) (inr t) = absurd (idle≢queued (b.board.state x) t.0.0 s.0.1)
+    both_states x h (inl s) (inr t) = inr ((sym s.0 ∙ t.0.0, t.0.1), later x t.1)
+    both_states x h (inr s) (inl t) = inr ((s.0.0, (t.0 ∙ s.0.1.0, t.1 ∙ s.0.1.1)), sooner x s.1)
+    both_states x h (inr s) (inr t) = absurd (idle≢queued (b.board.state x) t.0.0 s.0.1.0)
 
-    both_queues : (x : ℕ) → a.board.state x ≡ Idle → Touched v a.board c.board x → (c.board.state x ≡ Queued) × (c.pile x ≡ true)
+    both_queues : (x : ℕ) → a.board.state x ≡ Idle → Touched v a.board c.board x → InLine x c
     both_queues x i (j, w, ne) =
         let F : Fact = fact_of j in
         let h : x < length v.concepts = J j x w in
-        let in_first : (a.board.found F ≡ b.board.found F → ⊥) → (c.board.state x ≡ Queued) × (c.pile x ≡ true) =
+        let in_first : (a.board.found F ≡ b.board.found F → ⊥) → InLine x c =
         λ ab. let q = R.queues x i (j, w, ab) in stays_queued x h q.0 q.1 in
-        let in_second : a.board.found F ≡ b.board.found F → (c.board.state x ≡ Queued) × (c.pile x ≡ true) =
-        λ ab. ⊎_elim (λ s. S.queues x (s.0 ∙ i) (j, w, λ bc. ne (ab ∙ bc))) (λ s. stays_queued x h s.0.1 s.0.2) (R.states x h) in
+        let in_second : a.board.found F ≡ b.board.found F → InLine x c =
+        λ ab. ⊎_elim (λ s. S.queues x (s.0 ∙ i) (j, w, λ bc. ne (ab ∙ bc))) (λ s. stays_queued x h s.0.1.0 s.0.1.1) (R.states x h) in
         ⊎_elim in_second in_first (cases_eq (a.board.found F) (b.board.found F))
 
     pub raises_then : Raises v k (λ f p. P f p ⊎ Q f p) a c
@@ -179,6 +179,6 @@ module _ (v : Vocabulary) (k : Kind) (L : Lawful k) where
       only = λ h p w l t. ⊎_elim (λ e. ⊎_elim inl (λ q. inr (e, q)) (or_true (k.holds (a.board.found h) p) (k.holds g p) (sym (truth h p w l e) ∙ t))) (λ n. inl (subst (λ u. k.holds u p ≡ true) (elsewhere h w n) t)) (fact_cases f h);
       codes = λ h w. ⊎_elim (λ e. inr (subst (λ u. b.board.found u < k.codes) (sym e) (subst (λ u. u < k.codes) (sym at_fact) (L.join_code (a.board.found f) g)))) (λ n. inl (elsewhere h w n)) (fact_cases f h);
       queues = λ x i t. let u = work x t in called.hit x u (wrote.state x (J u.0 x u.1) ∙ i);
-      states = λ x h. ⊎_elim (λ s. inl (s.0 ∙ wrote.state x h, s.1 ∙ same_pile x)) (λ s. inr ((sym (wrote.state x h) ∙ s.0.0, s.0.1, s.0.2), touch x s.1)) (called.states x h);
+      states = λ x h. ⊎_elim (λ s. inl (s.0 ∙ wrote.state x h, s.1 ∙ same_pile x)) (λ s. inr ((sym (wrote.state x h) ∙ s.0.0, s.0.1), touch x s.1)) (called.states x h);
       beyond = λ x h. called.beyond x h ∙ same_pile x;
     }

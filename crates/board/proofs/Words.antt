@@ -6,9 +6,9 @@ use Rattle.reasoning.specs.declared.Job.{Job}
 use Rattle.saturation.specs.Effects.{SameGrades}
 use Rattle.reasoning.specs.declared.Fact.TheVariants.{Under as under, Implies as implies}
 use Rattle.reasoning.specs.declared.Job.TheVariants.{Own as own, Link as link, Imply as imply}
-use Rattle.board.specs.Layout.{room}
+use Rattle.board.specs.Layout.{words_needed}
 use Rattle.board.specs.Moves.{Wrote, Marked}
-use Rattle.board.specs.Views.{row, column, plane, layer, spot, mark, view_of, state_of}
+use Rattle.board.specs.Views.{row, column, plane, done_plane, spot, mark, view_of, state_of}
 use Rattle.board.proofs.Places.{place_plane, place_inside}
 
 row_fits : (n m : ℕ) (f : Fact) → Fits n m f → (row f < n) × (column f < n)
@@ -21,7 +21,7 @@ same_fact (under c d) (implies s c' e) p q r = absurd (omega arith)
 same_fact (implies s c e) (under c' d') p q r = absurd (omega arith)
 same_fact (implies s c e) (implies s' c' e') p q r = let t : s ≡ s' = omega arith in λ i. implies (t i) (q i) (r i)
 
-apart : (n m : ℕ) (f : Fact) (j : Job) → Fits n m f → plane f ≡ layer m j → ⊥
+apart : (n m : ℕ) (f : Fact) (j : Job) → Fits n m f → plane f ≡ done_plane m j → ⊥
 apart n m (under c d) (own a x) h p = omega arith
 apart n m (under c d) (link a x) h p = omega arith
 apart n m (under c d) (imply s a x) h p = omega arith
@@ -40,7 +40,7 @@ pub spot_mark : (n m : ℕ) (f : Fact) (j : Job) → Fits n m f → Fits n m (fa
 spot_mark n m f j F J e =
     let F' = row_fits n m f F in
     let J' = row_fits n m (fact_of j) J in
-    let t = place_plane n (plane f) (row f) (column f) (layer m j) (row (fact_of j)) (column (fact_of j)) F'.0 F'.1 J'.0 J'.1 e in
+    let t = place_plane n (plane f) (row f) (column f) (done_plane m j) (row (fact_of j)) (column (fact_of j)) F'.0 F'.1 J'.0 J'.1 e in
     apart n m f j F t.0
 
 pub wrote_word : (w : List ℕ) (n m s : ℕ) (f : Fact) (g i : ℕ) → i ≡ spot n f → i < length w → n ≤ i → Fits n m f → Wrote n m f g (view_of w n m s) (view_of (set w i g) n m s)
@@ -52,7 +52,7 @@ wrote_word w n m s f g i e l up F = record {
   steps = refl;
 }
 
-same_job : (m : ℕ) (i j : Job) → layer m i ≡ layer m j → row (fact_of i) ≡ row (fact_of j) → column (fact_of i) ≡ column (fact_of j) → i ≡ j
+same_job : (m : ℕ) (i j : Job) → done_plane m i ≡ done_plane m j → row (fact_of i) ≡ row (fact_of j) → column (fact_of i) ≡ column (fact_of j) → i ≡ j
 same_job m (own c d) (own c' d') p q r = λ i. own (q i) (r i)
 same_job m (own c d) (link c' d') p q r = absurd (omega arith)
 same_job m (own c d) (imply s c' e) p q r = absurd (omega arith)
@@ -67,7 +67,7 @@ pub mark_one : (n m : ℕ) (i j : Job) → Fits n m (fact_of i) → Fits n m (fa
 mark_one n m i j I J e =
     let I' = row_fits n m (fact_of i) I in
     let J' = row_fits n m (fact_of j) J in
-    let t = place_plane n (layer m i) (row (fact_of i)) (column (fact_of i)) (layer m j) (row (fact_of j)) (column (fact_of j)) I'.0 I'.1 J'.0 J'.1 e in
+    let t = place_plane n (done_plane m i) (row (fact_of i)) (column (fact_of i)) (done_plane m j) (row (fact_of j)) (column (fact_of j)) I'.0 I'.1 J'.0 J'.1 e in
     same_job m i j t.0 t.1 t.2
 
 pub marked_word : (w : List ℕ) (n m s : ℕ) (j : Job) (g i : ℕ) → i ≡ mark n m j → i < length w → n ≤ i → Fits n m (fact_of j) → Marked n m j g (view_of w n m s) (view_of (set w i g) n m s)
@@ -97,13 +97,13 @@ plane_inside : (n m : ℕ) (f : Fact) → Fits n m f → plane f < 3 + 2 * m
 plane_inside n m (under c d) h = omega arith
 plane_inside n m (implies s c e) h = let l = h.0 in omega arith
 
-layer_inside : (n m : ℕ) (j : Job) → Fits n m (fact_of j) → layer m j < 3 + 2 * m
-layer_inside n m (own c d) h = omega arith
-layer_inside n m (link c d) h = omega arith
-layer_inside n m (imply s c e) h = let l = h.0 in omega arith
+done_plane_inside : (n m : ℕ) (j : Job) → Fits n m (fact_of j) → done_plane m j < 3 + 2 * m
+done_plane_inside n m (own c d) h = omega arith
+done_plane_inside n m (link c d) h = omega arith
+done_plane_inside n m (imply s c e) h = let l = h.0 in omega arith
 
-pub spot_inside : (n m : ℕ) (f : Fact) → Fits n m f → (n ≤ spot n f) × (spot n f < room n m)
+pub spot_inside : (n m : ℕ) (f : Fact) → Fits n m f → (n ≤ spot n f) × (spot n f < words_needed n m)
 spot_inside n m f h = let r = row_fits n m f h in (omega arith, place_inside n m (plane f) (row f) (column f) (plane_inside n m f h) r.0 r.1)
 
-pub mark_inside : (n m : ℕ) (j : Job) → Fits n m (fact_of j) → (n ≤ mark n m j) × (mark n m j < room n m)
-mark_inside n m j h = let r = row_fits n m (fact_of j) h in (omega arith, place_inside n m (layer m j) (row (fact_of j)) (column (fact_of j)) (layer_inside n m j h) r.0 r.1)
+pub mark_inside : (n m : ℕ) (j : Job) → Fits n m (fact_of j) → (n ≤ mark n m j) × (mark n m j < words_needed n m)
+mark_inside n m j h = let r = row_fits n m (fact_of j) h in (omega arith, place_inside n m (done_plane m j) (row (fact_of j)) (column (fact_of j)) (done_plane_inside n m j h) r.0 r.1)

@@ -1,11 +1,12 @@
 -- What each call answers and does, of a board and its pile before and after.
-use Rattle.std.specs.Prelude.{◌≡◌, ℕ, ◌≤◌, Bool, List, Ok, Err, Result}
+use Rattle.std.specs.Prelude.{◌≡◌, ℕ, ◌<◌, ◌≤◌, Bool, List, Some, Ok, Err, Option, Result, ◌≢◌}
 use Rattle.rejections.specs.declared.Rejection.{Rejection}
-use Rattle.rejections.specs.declared.Rejection.TheVariants.{SmallPile}
+use Rattle.rejections.specs.declared.Rejection.TheVariants.{SmallPile, NotQueued}
 use Rattle.grades.specs.Kinds.{Kind}
 use Rattle.piles.specs.Sets.{Numbers}
 use Rattle.terms.specs.Vocabularies.{Vocabulary}
 use Rattle.reasoning.specs.declared.Job.{Job}
+use Rattle.saturation.specs.declared.State.TheVariants.{Queued}
 use Rattle.saturation.specs.Boards.{Sane}
 use Rattle.saturation.specs.Effects.{Made, Took, Worked, Lowered, Rechecked}
 use Rattle.saturation.specs.Histories.{Event}
@@ -16,21 +17,21 @@ use Rattle.board.specs.declared.board.running.Ran.{Ran}
 use Rattle.board.specs.declared.tokens.Lease.{Lease}
 use Rattle.board.specs.declared.tokens.LoweredLease.{LoweredLease}
 use Rattle.board.specs.declared.tokens.Refused.{Refused}
-use Rattle.board.specs.Layout.{room, KeptBeyond}
-use Rattle.board.specs.Views.{content_of, moment_of}
+use Rattle.board.specs.Layout.{words_needed, KeptBeyond}
+use Rattle.board.specs.Views.{content_of, moment_of, SaneBoard}
 use Rattle.board.specs.Raises.{Ready}
 use Rattle.board.specs.Refusals.{Unready, TakeRejected, StepRejected, LowerRejected, RecheckRejected}
 
 -- the board keeps sane grades sane
 abbrev pub StaysSane : {X : Type 0} → Kind → OpenBoard X → OpenBoard X → Type 0
-StaysSane k a b = Sane a.counts.concepts a.counts.roles k (content_of a) → Sane a.counts.concepts a.counts.roles k (content_of b)
+StaysSane k a b = SaneBoard k a → Sane a.counts.concepts a.counts.roles k (content_of b)
 
 -- a making in order: the board has the vocabulary's counts, start facts are found and queued, and the further words are as before
 pub record MadeBy {X Y : Type 0} (v : Vocabulary) (k : Kind) (numbers : Y → Numbers) (words : List ℕ) (b : OpenBoard X) (q : Y) : Type 0 where
   pub counts : SameCounts v b.counts.concepts b.counts.roles
   pub made : Made v k (moment_of numbers b q)
-  pub sane : Sane b.counts.concepts b.counts.roles k (content_of b)
-  pub beyond : KeptBeyond (room b.counts.concepts b.counts.roles) words b.words.now
+  pub sane : SaneBoard k b
+  pub beyond : KeptBeyond (words_needed b.counts.concepts b.counts.roles) words b.words.now
 
 -- a making that is rejected: the board has nothing, and nothing is touched
 pub record MadeEmpty {X S Y : Type 0} (words : List ℕ) (p : Y) (b : AnyBoard X S) (q : Y) : Type 0 where
@@ -46,9 +47,14 @@ Taken numbers a p b q (Ok lease) = (a.counts.concepts ≤ (numbers p).size) × T
 Taken numbers a p b q (Err e) =
     TakeRejected a.counts.concepts (numbers p).size (moment_of numbers a p) e × (b ≡ a) × ((x : ℕ) → (numbers q).holds x ≡ (numbers p).holds x) × (e ≡ SmallPile → q ≡ p)
 
+-- the number that a take tries is the one that the pile draws: it is leased, or it is not queued
+abbrev pub Tried : {X : Type 0} → Option ℕ → OpenBoard X → Result Lease Rejection → Type 0
+Tried front a (Ok lease) = front ≡ Some lease.concept
+Tried front a (Err e) = e ≡ NotQueued → (x : ℕ) × (front ≡ Some x) × (x < a.counts.concepts → (content_of a).state x ≢ Queued)
+
 -- a step answers the job that it did; a rejected one leaves everything
 abbrev pub Stepped : {X Y : Type 0} → Vocabulary → Kind → (Y → Numbers) → Lease → OpenBoard X → Y → OpenBoard X → Y → Result Job Rejection → Type 0
-Stepped v k numbers lease a p b q (Ok j) = Ready v numbers a p × (Sane a.counts.concepts a.counts.roles k (content_of a) → Worked v k lease.concept j (moment_of numbers a p) (moment_of numbers b q))
+Stepped v k numbers lease a p b q (Ok j) = Ready v numbers a p × (SaneBoard k a → Worked v k lease.concept j (moment_of numbers a p) (moment_of numbers b q))
 Stepped v k numbers lease a p b q (Err e) = StepRejected v a.counts.concepts a.counts.roles (numbers p).size (content_of a) lease.concept e × (b ≡ a) × (q ≡ p)
 
 -- a lowering spends the lease for a lowered one, whatever a pile holds; a rejected one leaves the board and hands the lease back
@@ -65,7 +71,7 @@ RecheckedBy v numbers lowered a p b q (Err r) =
 -- a run answers its outcome and its steps; a rejected one leaves everything
 abbrev pub RanBy : {X Y : Type 0} → Vocabulary → Kind → (Y → Numbers) → ℕ → OpenBoard X → Y → OpenBoard X → Y → Result Ran Rejection → Type 0
 RanBy v k numbers budget a p b q (Ok r) =
-    Ready v numbers a p × (Sane a.counts.concepts a.counts.roles k (content_of a) → (es : List Event) × Runs v k budget r.outcome r.steps es (moment_of numbers a p) (moment_of numbers b q))
+    Ready v numbers a p × (SaneBoard k a → (es : List Event) × Runs v k budget r.outcome r.steps es (moment_of numbers a p) (moment_of numbers b q))
 RanBy v k numbers budget a p b q (Err e) = Unready v a.counts.concepts a.counts.roles (numbers p).size e × (b ≡ a) × (q ≡ p)
 
 -- two boards, of whatever stages, are one: the view, the counts and the lent words are the same

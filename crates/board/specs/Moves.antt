@@ -5,7 +5,7 @@ use Rattle.reasoning.specs.declared.Job.{Job}
 use Rattle.reasoning.specs.Derivations.{Fits, fact_of}
 use Rattle.saturation.specs.declared.State.{State}
 use Rattle.saturation.specs.declared.State.TheVariants.{Idle, Queued, Held}
-use Rattle.saturation.specs.Boards.{Board, Moment}
+use Rattle.saturation.specs.Boards.{Board, Moment, InLine, Stays}
 use Rattle.saturation.specs.Effects.{SameGrades}
 use Rattle.board.specs.declared.board.states.Change.{Change}
 use Rattle.board.specs.declared.board.states.Change.TheVariants.{Take, Raise, Lower, Recheck}
@@ -52,18 +52,14 @@ abbrev pub Shifted : {X : Type 0} → (X → Board) → ℕ → ℕ → ℕ → 
 Shifted view n m c None a b changed = (b ≡ a) × (changed ≡ false)
 Shifted view n m c (Some s) a b changed = Moved n m c s (view a) (view b) × (changed ≡ true)
 
--- x is as it was
-abbrev pub Stays : ℕ → Moment → Moment → Type 0
-Stays x a b = (b.board.state x ≡ a.board.state x) × (b.pile x ≡ a.pile x)
-
 -- x was idle, and is queued
 abbrev pub Wakes : ℕ → Moment → Moment → Type 0
-Wakes x a b = (a.board.state x ≡ Idle) × (b.board.state x ≡ Queued) × (b.pile x ≡ true)
+Wakes x a b = (a.board.state x ≡ Idle) × InLine x b
 
 -- the concept is queued where it was idle
 pub record Nudged (n m c : ℕ) (a b : Moment) : Type 0 where
   pub grades : SameGrades n m a.board b.board
-  pub here : a.board.state c ≡ Idle → (b.board.state c ≡ Queued) × (b.pile c ≡ true)
+  pub here : a.board.state c ≡ Idle → InLine c b
   pub there : Stays c a b ⊎ Wakes c a b
   pub others : (x : ℕ) → x < n → (x ≢ c) → Stays x a b
   pub rest : (x : ℕ) → (x ≢ c) → b.pile x ≡ a.pile x

@@ -7,13 +7,13 @@ use Rattle.reasoning.specs.declared.Fact.{Fact}
 use Rattle.reasoning.specs.declared.Job.{Job}
 use Rattle.reasoning.specs.Derivations.{Within, JobAt, fact_of}
 use Rattle.saturation.specs.declared.State.TheVariants.{Idle, Queued}
-use Rattle.saturation.specs.Boards.{Board, Moment}
+use Rattle.saturation.specs.Boards.{Board, Moment, InLine, Stays}
 use Rattle.saturation.specs.Effects.{SameGrades}
 use Rattle.board.specs.Stages.{OpenBoard}
 use Rattle.board.specs.Counts.{SameCounts}
 use Rattle.board.specs.Views.{moment_of}
 use Rattle.board.specs.Frames.{Kept}
-use Rattle.board.specs.Moves.{Stays, Wakes}
+use Rattle.board.specs.Moves.{Wakes}
 
 -- at x stands a job of a fact whose found grade changed
 abbrev pub Touched : Vocabulary → Board → Board → ℕ → Type 0
@@ -31,7 +31,7 @@ pub record Raises (v : Vocabulary) (k : Kind) (P : Fact → ℕ → Type 0) (a b
   pub drew : (f : Fact) (p : ℕ) → Within v f → p < k.points → P f p → k.holds (b.board.found f) p ≡ true
   pub only : (f : Fact) (p : ℕ) → Within v f → p < k.points → k.holds (b.board.found f) p ≡ true → (k.holds (a.board.found f) p ≡ true) ⊎ P f p
   pub codes : (f : Fact) → Within v f → (b.board.found f ≡ a.board.found f) ⊎ (b.board.found f < k.codes)
-  pub queues : (x : ℕ) → a.board.state x ≡ Idle → Touched v a.board b.board x → (b.board.state x ≡ Queued) × (b.pile x ≡ true)
+  pub queues : (x : ℕ) → a.board.state x ≡ Idle → Touched v a.board b.board x → InLine x b
   pub states : (x : ℕ) → x < length v.concepts → Stays x a b ⊎ (Wakes x a b × Touched v a.board b.board x)
   pub beyond : (x : ℕ) → length v.concepts ≤ x → b.pile x ≡ a.pile x
 
@@ -42,7 +42,7 @@ Gains k f g h p = (h ≡ f) × (k.holds g p ≡ true)
 -- the idle concepts with a job of the fact are queued
 pub record Called (v : Vocabulary) (f : Fact) (a b : Moment) : Type 0 where
   pub grades : SameGrades (length v.concepts) v.roles a.board b.board
-  pub hit : (x : ℕ) → Works v f x → a.board.state x ≡ Idle → (b.board.state x ≡ Queued) × (b.pile x ≡ true)
+  pub hit : (x : ℕ) → Works v f x → a.board.state x ≡ Idle → InLine x b
   pub states : (x : ℕ) → x < length v.concepts → Stays x a b ⊎ (Wakes x a b × Works v f x)
   pub beyond : (x : ℕ) → length v.concepts ≤ x → b.pile x ≡ a.pile x
 

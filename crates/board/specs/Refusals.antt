@@ -1,16 +1,16 @@
 -- Why a call is rejected: the first reason that applies, in the order of the rejections' numbers.
-use Rattle.std.specs.Prelude.{◌≡◌, ℕ, ◌<◌, ◌≤◌, true, false, ◌⊎◌, length}
+use Rattle.std.specs.Prelude.{◌≡◌, ℕ, ◌<◌, ◌≤◌, true, ◌⊎◌, length}
 use mathlib.Core.List.{Memᴰ}
 use Rattle.rejections.specs.declared.Rejection.{Rejection}
 use Rattle.rejections.specs.declared.Rejection.TheVariants.{ForeignCode, TooFewWords, UnfitPile, OtherTerms, SmallPile, EmptyPile, NotQueued, UnfitLease, NothingWaits}
 use Rattle.grades.specs.Kinds.{Kind}
-use Rattle.piles.specs.Sets.{Numbers}
+use Rattle.piles.specs.Sets.{Numbers, Empty}
 use Rattle.terms.specs.declared.records.Inclusion.{Inclusion}
 use Rattle.terms.specs.Vocabularies.{Vocabulary}
 use Rattle.saturation.specs.declared.State.TheVariants.{Held}
 use Rattle.saturation.specs.Boards.{Board, Moment, QuietAt}
 use Rattle.saturation.specs.Runs as runs
-use Rattle.board.specs.Layout.{room}
+use Rattle.board.specs.Layout.{words_needed}
 use Rattle.board.specs.Counts.{SameCounts}
 
 -- the concept is one of n, and held
@@ -24,15 +24,15 @@ Coded v k = (i : Inclusion) → Memᴰ i v.inclusions → i.code < k.codes
 -- a check, of so many words and a pile
 pub data MakeRejected (v : Vocabulary) (k : Kind) (words : ℕ) (s : Numbers) : Rejection → Type 0 where
   foreign_code : {i : Inclusion} → Memᴰ i v.inclusions → k.codes ≤ i.code → MakeRejected v k words s ForeignCode
-  too_few_words : Coded v k → words < room (length v.concepts) v.roles → MakeRejected v k words s TooFewWords
-  unfit_pile : Coded v k → room (length v.concepts) v.roles ≤ words → (s.size < length v.concepts) ⊎ ((x : ℕ) × (s.holds x ≡ true)) → MakeRejected v k words s UnfitPile
+  too_few_words : Coded v k → words < words_needed (length v.concepts) v.roles → MakeRejected v k words s TooFewWords
+  unfit_pile : Coded v k → words_needed (length v.concepts) v.roles ≤ words → (s.size < length v.concepts) ⊎ ((x : ℕ) × (s.holds x ≡ true)) → MakeRejected v k words s UnfitPile
 
 -- there is no such reason
 pub record InOrder (v : Vocabulary) (k : Kind) (words : ℕ) (s : Numbers) : Type 0 where
   pub coded : Coded v k
-  pub enough : room (length v.concepts) v.roles ≤ words
+  pub enough : words_needed (length v.concepts) v.roles ≤ words
   pub wide : length v.concepts ≤ s.size
-  pub empty : (x : ℕ) → s.holds x ≡ false
+  pub empty : Empty s
 
 -- a run, or any call that takes terms and a pile, in the first place
 pub data Unready (v : Vocabulary) (n m size : ℕ) : Rejection → Type 0 where

@@ -5,12 +5,12 @@ use Rattle.piles.specs.Sets.{Numbers}
 use Rattle.terms.specs.Vocabularies.{Vocabulary}
 use Rattle.saturation.specs.declared.State.TheVariants.{Held}
 use Rattle.saturation.specs.declared.Outcome.{Outcome}
-use Rattle.saturation.specs.Boards.{Moment, QuietAt, Sane}
+use Rattle.saturation.specs.Boards.{Moment, QuietAt}
 use Rattle.saturation.specs.Effects.{Lowered, Rechecked}
 use Rattle.saturation.specs.Histories.{Event}
 use Rattle.saturation.specs.Runs.{Exhausts, Runs}
 use Rattle.board.specs.Stages.{OpenBoard}
-use Rattle.board.specs.Views.{content_of, moment_of}
+use Rattle.board.specs.Views.{content_of, moment_of, SaneBoard}
 use Rattle.board.specs.Frames.{Kept}
 use Rattle.board.specs.Calls.{StaysSane}
 
@@ -24,7 +24,7 @@ pub record Ongoing {X Y : Type 0} (v : Vocabulary) (k : Kind) (numbers : Y → N
   pub held : (content_of b).state c ≡ Held
   pub still : steps ≡ 0 → (b ≡ a) × (q ≡ p)
   pub sane : StaysSane k a b
-  pub stepping : Sane a.counts.concepts a.counts.roles k (content_of a) → Stepping v k c steps (moment_of numbers a p) (moment_of numbers b q)
+  pub stepping : SaneBoard k a → Stepping v k c steps (moment_of numbers a p) (moment_of numbers b q)
 
 -- the steps at c while the budget lasts and a job waits there
 pub record Exhausted {X Y : Type 0} (v : Vocabulary) (k : Kind) (numbers : Y → Numbers) (c budget steps : ℕ) (a : OpenBoard X) (p : Y) (b : OpenBoard X) (q : Y) : Type 0 where
@@ -34,7 +34,7 @@ pub record Exhausted {X Y : Type 0} (v : Vocabulary) (k : Kind) (numbers : Y →
   pub still : steps ≡ 0 → (b ≡ a) × (q ≡ p)
   pub quiet : steps < budget → QuietAt v (content_of b) c
   pub sane : StaysSane k a b
-  pub exhausts : Sane a.counts.concepts a.counts.roles k (content_of a) → (es : List Event) × Exhausts v k c budget steps es (moment_of numbers a p) (moment_of numbers b q)
+  pub exhausts : SaneBoard k a → (es : List Event) × Exhausts v k c budget steps es (moment_of numbers a p) (moment_of numbers b q)
 
 -- such steps, a lowering and a recheck
 pub record Turned {X Y : Type 0} (v : Vocabulary) (k : Kind) (numbers : Y → Numbers) (c budget steps : ℕ) (a : OpenBoard X) (p : Y) (b : OpenBoard X) (q : Y) : Type 0 where
@@ -42,7 +42,7 @@ pub record Turned {X Y : Type 0} (v : Vocabulary) (k : Kind) (numbers : Y → Nu
   pub spent : steps ≤ budget
   pub still : steps ≡ 0 → 0 < budget → (x : ℕ) → (numbers q).holds x ≡ (numbers p).holds x
   pub sane : StaysSane k a b
-  pub turns : Sane a.counts.concepts a.counts.roles k (content_of a) →
+  pub turns : SaneBoard k a →
       (es : List Event) × (d e : Moment) × Exhausts v k c budget steps es (moment_of numbers a p) d × Lowered (length v.concepts) v.roles c d e × Rechecked v c e (moment_of numbers b q)
 
 -- turns of so many steps led from a to b: whatever goes on from b goes on from a
@@ -54,4 +54,4 @@ pub record Rolling {X Y : Type 0} (v : Vocabulary) (k : Kind) (numbers : Y → N
   pub kept : Kept numbers a p b q
   pub spent : steps ≤ budget
   pub sane : StaysSane k a b
-  pub turning : Sane a.counts.concepts a.counts.roles k (content_of a) → Turning v k budget steps (moment_of numbers a p) (moment_of numbers b q)
+  pub turning : SaneBoard k a → Turning v k budget steps (moment_of numbers a p) (moment_of numbers b q)

@@ -6,7 +6,7 @@ use Rattle.reasoning.specs.declared.Job.{Job}
 use Rattle.reasoning.specs.declared.Job.TheVariants.{Own as own, Link as link, Imply as imply}
 use Rattle.saturation.specs.Boards.{Board, Rests, Waits, QuietAt}
 use Rattle.board.specs.Views.{is_idle}
-use Rattle.board.specs.declared.reader.finding.Link.{Link}
+use Rattle.board.specs.declared.reader.finding.LinkJob.{LinkJob}
 use Rattle.board.specs.declared.reader.finding.Line.{Line}
 use Rattle.board.specs.declared.reader.finding.Line.TheVariants.{Owns, Links, Implications}
 
@@ -16,11 +16,11 @@ job_of (Owns c) i = own c i
 job_of (Links x) i = link i x
 job_of (Implications s c) i = imply s c i
 
--- the line's numbers are of so many concepts and roles
-abbrev pub Lies : ℕ → ℕ → Line → Type 0
-Lies n m (Owns c) = c < n
-Lies n m (Links x) = x < n
-Lies n m (Implications s c) = (s < m) × (c < n)
+-- the line's numbers are below the counts of concepts and roles
+abbrev pub InRange : ℕ → ℕ → Line → Type 0
+InRange n m (Owns c) = c < n
+InRange n m (Links x) = x < n
+InRange n m (Implications s c) = (s < m) × (c < n)
 
 -- no job of the line waits that goes by a number below n
 abbrev pub NoneBelow : Board → Line → ℕ → Type 0
@@ -46,7 +46,7 @@ pub record FirstLink (v : Vocabulary) (b : Board) (c i a x : ℕ) : Type 0 where
   pub none_before : (y r : ℕ) → y < x → Is v y (Restriction r c) → Rests b (link a y)
 
 -- none waits of those by concepts below i, or the first of them is known
-abbrev pub BestLink : Vocabulary → Board → ℕ → ℕ → Option Link → Type 0
+abbrev pub BestLink : Vocabulary → Board → ℕ → ℕ → Option LinkJob → Type 0
 BestLink v b c i None = NoLinks v b c i (length v.concepts)
 BestLink v b c i (Some l) = FirstLink v b c i l.left l.right
 

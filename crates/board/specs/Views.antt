@@ -1,5 +1,6 @@
 -- What the words of a board say.
 use Rattle.std.specs.Prelude.{ℕ, zero, suc, ◌+◌, Bool, true, false, List, slice_index}
+use Rattle.grades.specs.Kinds.{Kind}
 use Rattle.piles.specs.Sets.{Numbers}
 use Rattle.reasoning.specs.declared.Fact.{Fact}
 use Rattle.reasoning.specs.declared.Fact.TheVariants.{Under as under, Implies as implies}
@@ -8,7 +9,7 @@ use Rattle.reasoning.specs.declared.Job.TheVariants.{Own as own, Link as link, I
 use Rattle.reasoning.specs.Derivations.{fact_of}
 use Rattle.saturation.specs.declared.State.{State}
 use Rattle.saturation.specs.declared.State.TheVariants.{Idle, Queued, Held}
-use Rattle.saturation.specs.Boards.{Board, Moment}
+use Rattle.saturation.specs.Boards.{Board, Moment, Sane}
 use Rattle.board.specs.declared.reader.Reader.{Reader}
 use Rattle.board.specs.Stages.{AnyBoard}
 use Rattle.board.specs.Layout.{place}
@@ -41,10 +42,10 @@ plane (under c d) = 0
 plane (implies s c e) = 3 + s
 
 -- the plane of a job's done grade, where there are m roles
-abbrev pub layer : ℕ → Job → ℕ
-layer m (own c d) = 1
-layer m (link c d) = 2
-layer m (imply s c e) = 3 + m + s
+abbrev pub done_plane : ℕ → Job → ℕ
+done_plane m (own c d) = 1
+done_plane m (link c d) = 2
+done_plane m (imply s c e) = 3 + m + s
 
 -- the word of a fact's found grade
 abbrev pub spot : ℕ → Fact → ℕ
@@ -52,7 +53,7 @@ spot n f = place n (plane f) (row f) (column f)
 
 -- the word of a job's done grade
 abbrev pub mark : ℕ → ℕ → Job → ℕ
-mark n m j = place n (layer m j) (row (fact_of j)) (column (fact_of j))
+mark n m j = place n (done_plane m j) (row (fact_of j)) (column (fact_of j))
 
 -- what the words say of n concepts and m roles
 abbrev pub view_of : List ℕ → ℕ → ℕ → ℕ → Board
@@ -66,6 +67,10 @@ view_of words n m steps = record {
 -- what a board says, at whatever stage
 abbrev pub content_of : {X S : Type 0} → AnyBoard X S → Board
 content_of b = view_of b.words.now b.counts.concepts b.counts.roles b.steps
+
+-- its grades are sane, by its own counts
+abbrev pub SaneBoard : {X S : Type 0} → Kind → AnyBoard X S → Type 0
+SaneBoard k b = Sane b.counts.concepts b.counts.roles k (content_of b)
 
 -- what a board that is lent for reading says
 abbrev pub read_of : Reader → Board

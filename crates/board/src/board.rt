@@ -1,6 +1,6 @@
 //! The board: the shared state of one saturation, over lent words. It is open, for work, or closed, for questions.
 ghost use Rattle.std.specs.Prelude.{◌≤◌, length};
-ghost use Rattle.board.specs.Layout.{room, StateWords};
+ghost use Rattle.board.specs.Layout.{words_needed, StateWords};
 
 use crate::counts::Counts;
 use std::marker::PhantomData;
@@ -34,7 +34,7 @@ pub struct Board<'a, K, S> {
     steps: u64,
     pub(crate) kind: K,
     stage: PhantomData<S>,
-    ghost fits: { room counts.concepts counts.roles ≤ length words.now },
+    ghost fits: { words_needed counts.concepts counts.roles ≤ length words.now },
     ghost states: { StateWords counts.concepts words.now },
 }
 

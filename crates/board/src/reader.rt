@@ -1,6 +1,6 @@
 //! What a board says, for reading: open and closed boards lend their words alike.
 ghost use Rattle.std.specs.Prelude.{◌≤◌, length};
-ghost use Rattle.board.specs.Layout.{room};
+ghost use Rattle.board.specs.Layout.{words_needed};
 
 use crate::counts::Counts;
 
@@ -15,5 +15,5 @@ pub(crate) struct Reader<'b> {
     pub(crate) words: &'b [u16],
     pub(crate) counts: Counts,
     pub(crate) steps: u64,
-    ghost fits: { room counts.concepts counts.roles ≤ length words.now },
+    ghost fits: { words_needed counts.concepts counts.roles ≤ length words.now },
 }

@@ -23,7 +23,7 @@ use Rattle.saturation.specs.Answers.{TrulyUnder, Grade, Mate, Parent}
 use Rattle.saturation.specs.Deciding.{mate_test, parent_test}
 use Rattle.saturation.proofs.Deciding.{named_decides, mate_decides, parent_decides}
 use Rattle.saturation.proofs.Truths.{one_grade}
-use Rattle.board.specs.Layout.{room}
+use Rattle.board.specs.Layout.{words_needed}
 use Rattle.board.specs.Questions.{Under, answer, unsettled, no_concept, other_terms, job_waits}
 use Rattle.sheet.specs.declared.fault.Fault.{Fault}
 use Rattle.listing.specs.declared.page.Row.{Row}
@@ -69,7 +69,7 @@ met_test v k facts (listing rows) = listing_test v k facts rows
 met_test v k facts (steps n) = counts n (pairs v k facts)
 met_test v k facts (mates a p xs) = is_named v a && (ltb p k.points && lists (length v.concepts) (mate_test v (λ c d. has (facts p) (under c d)) a) xs)
 met_test v k facts (parents a p xs) = is_named v a && (ltb p k.points && lists (length v.concepts) (parent_test (length v.concepts) v (λ c d. has (facts p) (under c d)) a) xs)
-met_test v k facts (words n) = eqb (room (length v.concepts) v.roles) n
+met_test v k facts (words n) = eqb (words_needed (length v.concepts) v.roles) n
 met_test v k facts (unknown a) = not (is_named v a)
 
 -- more rounds than any case needs
@@ -212,7 +212,7 @@ module _ (v : Vocabulary) (wf : WellFormed v) (k : Kind) (lawful : Lawful k) (fa
       let i = (named_decides v a).0 t.0 in
       let l = ltb-true p k.points u.0 in
       (i, l, lists_true n (parent_test n v related a) (Parent v (TrulyUnder v k p) a) xs (λ x. parent_decides v related (TrulyUnder v k p) (λ c d ic id. tells p l c d ic id.0) a x i) (λ x m. m.0.0) u.1)
-  met_true (words n) h = eqb-true (room (length v.concepts) v.roles) n h
+  met_true (words n) h = eqb-true (words_needed (length v.concepts) v.roles) n h
   met_true (unknown a) h = unknown_true v a ((Decides-not _ (named_decides v a)).0 h)
 
 -- the table of a point

@@ -12,7 +12,7 @@ use Rattle.saturation.specs.Boards.{Board, Moment, Quiet}
 use Rattle.saturation.specs.Histories.{Event, History}
 use Rattle.saturation.specs.AnyOrder.{AllDue}
 use Rattle.saturation.specs.Answers.{TrulyUnder, Grade, Mate, Parent, ListOf}
-use Rattle.board.specs.Layout.{room}
+use Rattle.board.specs.Layout.{words_needed}
 use Rattle.board.specs.Questions.{Under}
 use Rattle.listing.specs.declared.page.Row.{Row}
 use Rattle.listing.specs.Listings.{Listing}
@@ -49,7 +49,7 @@ Met v k (listing rows) = Listing v k rows
 Met v k (steps n) = AllDue v k n
 Met v k (mates a p xs) = Named v a × (p < k.points) × ListOf (Mate v (TrulyUnder v k p) a) xs
 Met v k (parents a p xs) = Named v a × (p < k.points) × ListOf (Parent v (TrulyUnder v k p) a) xs
-Met v k (words n) = room (length v.concepts) v.roles ≡ n
+Met v k (words n) = words_needed (length v.concepts) v.roles ≡ n
 Met v k (unknown a) = (b : Board) → Quiet v b → (d : ℕ) (r : Result ℕ Rejection) → Under v (length v.concepts) v.roles b a d r → r ≡ Err NoSuchConcept
 
 -- on any board on which no job waits, a grade as expected is the one that was found, and with one point the steps are as many as expected

@@ -19,7 +19,7 @@ use Rattle.saturation.proofs.Truths.{one_grade}
 use Rattle.board.specs.Stages.{OpenBoard}
 use Rattle.board.specs.declared.board.running.Ran.{Ran}
 use Rattle.board.specs.Views.{content_of, moment_of}
-use Rattle.board.specs.Layout.{room}
+use Rattle.board.specs.Layout.{words_needed}
 use Rattle.board.specs.Refusals.{MakeRejected, Coded}
 use Rattle.board.specs.Calls.{MadeBy, RanBy}
 use Rattle.board.proofs.Running.{unready}
@@ -90,7 +90,7 @@ no_board v k page words s e w l h (MakeRejected.too_few_words c m) = ListedOr.to
 no_board v k page words s e w l h (MakeRejected.unfit_pile c m (inl t)) = absurd (omega arith)
 no_board v k page words s e w l h (MakeRejected.unfit_pile c m (inr t)) = absurd (both_ways (s.holds t.0) (h t.0) t.1)
 
-pub board_listed : (v : Vocabulary) (k : Kind) (words n size : ℕ) (rows : List Row) (before after : List ℕ) → words ≡ 17640 → Coded v k → room (length v.concepts) v.roles ≤ words → Listing v k rows →
+pub board_listed : (v : Vocabulary) (k : Kind) (words n size : ℕ) (rows : List Row) (before after : List ℕ) → words ≡ 17640 → Coded v k → words_needed (length v.concepts) v.roles ≤ words → Listing v k rows →
     Wrote rows 0 size n before after → ListedOr v k before after (Ok size)
 board_listed v k words n size rows before after e c l is w =
     let q : size ≡ length (page_of rows) = omega (arith, w.1) in

@@ -1,5 +1,6 @@
 -- The order in which a ring's numbers came.
 use Rattle.std.specs.Prelude.{◌≡◌, ℕ, cond, List, [], ◌∷◌, ◌++◌, Some, None, Ok, Err, Option, Result}
+use Rattle.std.specs.List.{slice_get}
 use Rattle.rejections.specs.declared.Rejection.{Rejection}
 use Rattle.piles.specs.declared.ring.Ring.{Ring}
 use Rattle.piles.specs.Sets.{Numbers}
@@ -13,6 +14,10 @@ in_ring r = listed r.list.now
 -- the numbers that it holds, the one held longest first
 abbrev pub order : Ring → List ℕ
 order r = walk r.list.now r.head r.count
+
+-- the number held longest, if there is one
+abbrev pub longest_in : Ring → Option ℕ
+longest_in r = slice_get (order r) 0
 
 -- by a put, a number that is new comes last
 abbrev pub Queued : List ℕ → List ℕ → ℕ → Result (Unit {0}) Rejection → Type 0

@@ -10,6 +10,10 @@ pub record Numbers : Type 0 where
   pub small : size ≤ 1024
   pub below : (x : ℕ) → holds x ≡ true → x < size
 
+-- there are none
+abbrev pub Empty : Numbers → Type 0
+Empty s = (x : ℕ) → s.holds x ≡ false
+
 -- how many numbers below n are in the set f
 abbrev pub tally : (ℕ → Bool) → ℕ → ℕ
 tally f zero = 0
@@ -34,5 +38,5 @@ Put s t x (Err e) = (t.size ≡ s.size) × (s.size ≤ x) × ((y : ℕ) → t.ho
 
 -- s became t by a draw that was answered so: a number that was held is held no more, and none is answered just where none was held
 abbrev pub Drew : Numbers → Numbers → Option ℕ → Type 0
-Drew s t None = (t.size ≡ s.size) × ((y : ℕ) → s.holds y ≡ false) × ((y : ℕ) → t.holds y ≡ s.holds y)
+Drew s t None = (t.size ≡ s.size) × Empty s × ((y : ℕ) → t.holds y ≡ s.holds y)
 Drew s t (Some x) = (t.size ≡ s.size) × (s.holds x ≡ true) × ((y : ℕ) → t.holds y ≡ without s.holds x y)

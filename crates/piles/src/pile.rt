@@ -1,5 +1,5 @@
 //! What every pile does. A pile is a worklist, known by the set of numbers that wait in it.
-ghost use Rattle.std.specs.Prelude.{◌≡◌};
+ghost use Rattle.std.specs.Prelude.{◌≡◌, ℕ, Option};
 ghost use Rattle.piles.specs.Sets.{Numbers, Put, Drew, count_of};
 
 use rejections::Rejection;
@@ -8,6 +8,9 @@ use rejections::Rejection;
 pub trait Pile {
     // What the pile holds, and its size.
     ghost numbers: { Self → Numbers };
+
+    // The number that a draw takes out.
+    ghost front: { Self → Option ℕ };
 
     /// The size, at most 1,024: every number that is held is below it.
     fn size(&self) -> usize
@@ -27,12 +30,14 @@ pub trait Pile {
 
     /// Takes out a number of the pile's choice; `None` says that none is held.
     fn draw(&mut self) -> Option<u16>
-        ensures set { Drew (numbers self.old) (numbers self.new) result };
+        ensures set { Drew (numbers self.old) (numbers self.new) result }
+        ensures front { result ≡ front self.old };
 }
 
 /// A borrowed pile is a pile.
 impl<'a, P: Pile> Pile for &'a mut P {
     ghost numbers = { λ s. P.Pile.numbers s.now };
+    ghost front = { λ s. P.Pile.front s.now };
 
     fn size(&self) -> usize {
         (**self).size()

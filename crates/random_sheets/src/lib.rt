@@ -1,5 +1,5 @@
 //! Random sheets for trials: sheets without a fault, in which the rules of derivation have much to do, and sheets with one thing changed. It
-//! is test equipment: what is proved of it is that each function is safe and ends.
+//! is test equipment: what is proved of it is that each function is safe and ends, and that a random number is below its bound.
 #![tactic(auto)]
 
 mod damage;

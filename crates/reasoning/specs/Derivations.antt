@@ -9,6 +9,7 @@ use Rattle.reasoning.specs.Models.{Below, IsTransitive}
 pub use Rattle.reasoning.specs.declared.Fact.{Fact}
 pub use Rattle.reasoning.specs.declared.Fact.TheVariants.{Under as under, Implies as implies}
 -- a fact at a concept where rules use it: an own job at its left concept, a link job at the filler of its right concept, an implication job
+-- at its left concept
 pub use Rattle.reasoning.specs.declared.Job.{Job}
 pub use Rattle.reasoning.specs.declared.Job.TheVariants.{Own as own, Link as link, Imply as imply}
 

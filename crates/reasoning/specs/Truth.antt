@@ -1,5 +1,5 @@
 -- Derivability and truth in all finite models are one.
-use Rattle.std.specs.Prelude.{◌≡◌, ℕ, ◌<◌, Bool, true, length}
+use Rattle.std.specs.Prelude.{◌≡◌, ℕ, ◌<◌, Bool, true, length, Decides}
 use Rattle.terms.specs.Vocabularies.{Vocabulary, Named, WellFormed}
 use Rattle.reasoning.specs.Models.{Entails}
 use Rattle.reasoning.specs.Derivations.{Fact, under, Derivable, Closed}
@@ -19,4 +19,4 @@ Least = (v : Vocabulary) (on : ℕ → Bool) (table : Fact → Bool) → Closed 
 -- a closed table of derivable facts has a named concept under another just where every finite model has it inside
 abbrev pub Exact : Type 0
 Exact = (v : Vocabulary) (on : ℕ → Bool) → WellFormed v → (table : Fact → Bool) → Closed v on table → ((f : Fact) → table f ≡ true → Derivable v on f) →
-    (a d : ℕ) → Named v a → d < length v.concepts → (table (under a d) ≡ true → Entails v on a d) × (Entails v on a d → table (under a d) ≡ true)
+    (a d : ℕ) → Named v a → d < length v.concepts → Decides (table (under a d)) (Entails v on a d)

@@ -1,4 +1,4 @@
-//! Every way in which a call of the library turns its input down, and the number that users know it by.
+//! Every way in which the library turns its input down, and the number that users know it by.
 #![tactic(auto)]
 
 ghost use Rattle.std.specs.Prelude.{◌≡◌};

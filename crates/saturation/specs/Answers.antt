@@ -25,6 +25,10 @@ pub record Grade (v : Vocabulary) (k : Kind) (c d g : ℕ) : Type 0 where
   pub is_code : g < k.codes
   pub truthful : Truthful v k c d g
 
+-- the board found the truthful grade of each named concept under any other
+abbrev pub TrueGrades : Vocabulary → Kind → Board → Type 0
+TrueGrades v k b = (a d : ℕ) → Named v a → d < length v.concepts → Truthful v k a d (b.found (under a d))
+
 -- b is a mate of a: another named concept, each under the other
 abbrev pub Mate : Vocabulary → (ℕ → ℕ → Type 0) → ℕ → ℕ → Type 0
 Mate v Under a b = Named v b × (b ≢ a) × Under a b × Under b a
@@ -54,7 +58,7 @@ ListOf P xs = ListBy (λ x y. x < y) P xs
 
 -- the grades, the mates and the parents that a board answers are those of the models
 pub record AnswersTrue (v : Vocabulary) (k : Kind) (b : Board) : Type 0 where
-  pub under_true : (a d : ℕ) → Named v a → d < length v.concepts → Truthful v k a d (b.found (under a d))
+  pub under_true : TrueGrades v k b
   pub mates_true : (a p : ℕ) (xs : List ℕ) → Named v a → p < k.points → ListOf (Mate v (FoundUnder k b p) a) xs → ListOf (Mate v (TrulyUnder v k p) a) xs
   pub parents_true : (a p : ℕ) (xs : List ℕ) → Named v a → p < k.points → ListOf (Parent v (FoundUnder k b p) a) xs → ListOf (Parent v (TrulyUnder v k p) a) xs
 

@@ -10,11 +10,11 @@ use Rattle.reasoning.specs.Derivations.{Within, JobAt, fact_of, Derivable}
 use Rattle.saturation.specs.declared.State.TheVariants.{Idle, Queued, Held}
 use Rattle.saturation.specs.declared.Outcome.{Outcome}
 use Rattle.saturation.specs.declared.Outcome.TheVariants.{Finished}
-use Rattle.saturation.specs.Boards.{Moment, Waits, Quiet, QuietAt, Sane}
+use Rattle.saturation.specs.Boards.{Moment, InLine, Waits, Quiet, QuietAt, Sane}
 use Rattle.saturation.specs.Effects.{Made}
-use Rattle.saturation.specs.Answers.{Truthful}
+use Rattle.saturation.specs.Answers.{TrueGrades}
 use Rattle.saturation.specs.Histories.{Event, Leads, History, granted, given_back, unrechecked, held_count}
-use Rattle.saturation.specs.Runs.{Runs}
+use Rattle.saturation.specs.Runs.{EmptyPile, Runs}
 
 -- no entry stands twice in the list
 abbrev pub Distinct : {A : Type 0} → List A → Type 0
@@ -40,12 +40,12 @@ pub record Promise (v : Vocabulary) (k : Kind) (es : List Event) (m : Moment) : 
   -- leases granted are the leases lowered and the concepts now held
   pub leases : granted es ≡ given_back es + held_count (length v.concepts) m.board.state
   -- a waiting job's concept is queued and in the pile, held, or lowered without its recheck
-  pub nothing_lost : (j : Job) (c : ℕ) → JobAt v j c → Waits m.board j → ((m.board.state c ≡ Queued) × (m.pile c ≡ true)) ⊎ (m.board.state c ≡ Held) ⊎ (unrechecked c es ≡ true)
+  pub nothing_lost : (j : Job) (c : ℕ) → JobAt v j c → Waits m.board j → InLine c m ⊎ (m.board.state c ≡ Held) ⊎ (unrechecked c es ≡ true)
   -- the numbers in the pile are the queued concepts
   pub queued_in_pile : (c : ℕ) → c < length v.concepts → m.board.state c ≡ Queued → m.pile c ≡ true
   pub only_queued : (c : ℕ) → m.pile c ≡ true → (c < length v.concepts) × (m.board.state c ≡ Queued)
   -- when no job waits, a grade holds a point just where every finite model there agrees
-  pub true_in_models : Quiet v m.board → (a d : ℕ) → Named v a → d < length v.concepts → Truthful v k a d (m.board.found (under a d))
+  pub true_in_models : Quiet v m.board → TrueGrades v k m.board
   -- the steps are as many as some distinct derivable pairs of job and point
   pub few_steps : DistinctDue v k m.board.steps
   -- with one point, when no job waits, they are as many as all derivable pairs
@@ -69,7 +69,7 @@ RunsLead = (v : Vocabulary) (k : Kind) (budget steps : ℕ) (o : Outcome) (es : 
 abbrev pub possible_pairs : Vocabulary → Kind → ℕ
 possible_pairs v k = (((2 + v.roles) * length v.concepts) * length v.concepts) * k.points
 
--- a fresh board and one run with a budget of at least the possible pairs end as finished
+-- a fresh board and one run with a budget of at least the possible pairs end as finished: what RunsFinish says of a fresh board, in short
 abbrev pub FreshRunFinishes : Type 0
 FreshRunFinishes = (k : Kind) → Lawful k → (v : Vocabulary) → WellFormed v → (a b : Moment) → Made v k a →
     (budget steps : ℕ) (o : Outcome) (es : List Event) → possible_pairs v k ≤ budget → Runs v k budget o steps es a b → o ≡ Finished
@@ -88,7 +88,7 @@ pub record Rested (v : Vocabulary) (es : List Event) (m : Moment) : Type 0 where
 pub record AllDone (v : Vocabulary) (m : Moment) : Type 0 where
   pub quiet : Quiet v m.board
   pub idle : (c : ℕ) → c < length v.concepts → m.board.state c ≡ Idle
-  pub empty : (c : ℕ) → m.pile c ≡ false
+  pub empty : EmptyPile m
 
 -- a fresh board is at rest; and whatever led to a board at rest, one run with a budget of at least the possible pairs ends as finished and
 -- has done all the work

@@ -8,7 +8,7 @@ use Rattle.reasoning.specs.declared.Job.{Job}
 use Rattle.reasoning.specs.declared.Job.TheVariants.{Own as own, Link as link, Imply as imply}
 use Rattle.reasoning.specs.Derivations.{Fits, fact_of, Rule, JobAt}
 use Rattle.saturation.specs.declared.State.{State}
-use Rattle.saturation.specs.declared.State.TheVariants.{Idle}
+use Rattle.saturation.specs.declared.State.TheVariants.{Idle, Queued}
 
 -- a board, as its users see it
 pub record Board : Type 0 where
@@ -21,6 +21,14 @@ pub record Board : Type 0 where
 pub record Moment : Type 0 where
   pub board : Board
   pub pile : ℕ → Bool
+
+-- x is queued, and in the pile
+abbrev pub InLine : ℕ → Moment → Type 0
+InLine x m = (m.board.state x ≡ Queued) × (m.pile x ≡ true)
+
+-- x is as it was
+abbrev pub Stays : ℕ → Moment → Moment → Type 0
+Stays x a b = (b.board.state x ≡ a.board.state x) × (b.pile x ≡ a.pile x)
 
 -- the job rests: its done grade is the found grade of its fact
 abbrev pub Rests : Board → Job → Type 0

@@ -7,7 +7,7 @@ use Rattle.reasoning.specs.declared.Fact.TheVariants.{Under as under}
 use Rattle.reasoning.specs.declared.Job.{Job}
 use Rattle.reasoning.specs.Derivations.{Fits, Within, fact_of}
 use Rattle.saturation.specs.declared.State.TheVariants.{Idle, Queued, Held}
-use Rattle.saturation.specs.Boards.{Board, Moment, First, Draws, Stirred, Missed}
+use Rattle.saturation.specs.Boards.{Board, Moment, InLine, Stays, First, Draws, Stirred, Missed}
 
 -- the grades and the count of steps are as before
 pub record SameGrades (n m : ℕ) (a b : Board) : Type 0 where
@@ -55,8 +55,8 @@ pub record Worked (v : Vocabulary) (k : Kind) (c : ℕ) (j : Job) (a b : Moment)
   pub drew : (f : Fact) (p : ℕ) → Within v f → p < k.points → Draws v k b.board.done j f p → k.holds (b.board.found f) p ≡ true
   pub only : (f : Fact) (p : ℕ) → Within v f → p < k.points → k.holds (b.board.found f) p ≡ true → (k.holds (a.board.found f) p ≡ true) ⊎ Draws v k b.board.done j f p
   pub codes : (f : Fact) → Within v f → b.board.found f < k.codes
-  pub queues : (x : ℕ) → a.board.state x ≡ Idle → Stirred v a.board b.board x → (b.board.state x ≡ Queued) × (b.pile x ≡ true)
-  pub leaves : (x : ℕ) → x < length v.concepts → (a.board.state x ≡ Idle → Stirred v a.board b.board x → ⊥) → (b.board.state x ≡ a.board.state x) × (b.pile x ≡ a.pile x)
+  pub queues : (x : ℕ) → a.board.state x ≡ Idle → Stirred v a.board b.board x → InLine x b
+  pub leaves : (x : ℕ) → x < length v.concepts → (a.board.state x ≡ Idle → Stirred v a.board b.board x → ⊥) → Stays x a b
   pub beyond : (x : ℕ) → length v.concepts ≤ x → b.pile x ≡ a.pile x
   pub counted : b.board.steps ≡ min (a.board.steps + 1) (2 ^ 64 - 1)
 
@@ -72,8 +72,8 @@ pub record Lowered (n m c : ℕ) (a b : Moment) : Type 0 where
 -- recheck: the concept is queued if it is idle and a job waits there
 pub record Rechecked (v : Vocabulary) (c : ℕ) (a b : Moment) : Type 0 where
   pub within : c < length v.concepts
-  pub queues : Missed v a.board c → (b.board.state c ≡ Queued) × (b.pile c ≡ true)
-  pub leaves : (Missed v a.board c → ⊥) → (b.board.state c ≡ a.board.state c) × (b.pile c ≡ a.pile c)
+  pub queues : Missed v a.board c → InLine c b
+  pub leaves : (Missed v a.board c → ⊥) → Stays c a b
   pub others : (x : ℕ) → x < length v.concepts → (x ≢ c) → b.board.state x ≡ a.board.state x
   pub rest : (x : ℕ) → (x ≢ c) → b.pile x ≡ a.pile x
   pub grades : SameGrades (length v.concepts) v.roles a.board b.board

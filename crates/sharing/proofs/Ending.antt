@@ -16,7 +16,7 @@ use Rattle.saturation.proofs.OneAnswer.{any_order}
 use Rattle.board.specs.Stages.{OpenBoard}
 use Rattle.board.specs.declared.board.running.Ran.{Ran}
 use Rattle.board.specs.Stages.{ClosedBoard}
-use Rattle.board.specs.Layout.{room}
+use Rattle.board.specs.Layout.{words_needed}
 use Rattle.board.specs.Views.{content_of, moment_of}
 use Rattle.board.specs.Frames.{Kept}
 use Rattle.board.specs.Refusals.{InOrder, MakeRejected}
@@ -66,7 +66,7 @@ module _ {X Y : Type 0} (k : Kind) (lawful : Lawful k) (v : Vocabulary) (wf : We
       beyond = record {
         extent = ap length closed.words ∙ kept.frame.beyond.extent ∙ made.beyond.extent;
         further = λ i l.
-            let h : room a.counts.concepts a.counts.roles ≤ i = subst₂ (λ n m. room n m ≤ i) (closed.concepts ∙ kept.frame.concepts) (closed.roles ∙ kept.frame.roles) l in
+            let h : words_needed a.counts.concepts a.counts.roles ≤ i = subst₂ (λ n m. words_needed n m ≤ i) (closed.concepts ∙ kept.frame.concepts) (closed.roles ∙ kept.frame.roles) l in
             ap (λ ws. get_or ws i 0) closed.words ∙ kept.frame.beyond.further i h ∙ made.beyond.further i h;
       };
       size = kept.size ∙ size;

@@ -8,10 +8,10 @@ use Rattle.saturation.specs.declared.State.TheVariants.{Held}
 use Rattle.saturation.specs.Boards.{Sane}
 use Rattle.saturation.specs.Histories.{Event, lowered, rechecked, Leads, History, granted, given_back, unrechecked}
 use Rattle.saturation.specs.AnyOrder.{AllDone}
-use Rattle.saturation.specs.Answers.{Truthful}
+use Rattle.saturation.specs.Answers.{TrueGrades}
 use Rattle.board.specs.Stages.{OpenBoard, ClosedBoard}
 use Rattle.board.specs.Counts.{SameCounts}
-use Rattle.board.specs.Layout.{room, KeptBeyond}
+use Rattle.board.specs.Layout.{words_needed, KeptBeyond}
 use Rattle.board.specs.Views.{content_of, moment_of}
 use Rattle.board.specs.Frames.{Kept}
 use Rattle.board.specs.Raises.{Ready}
@@ -44,10 +44,10 @@ pub record TookTurns {X Y : Type 0} (v : Vocabulary) (k : Kind) (numbers : Y →
 -- the further words and the pile's size are as before
 pub record WorkDone {X Y : Type 0} (v : Vocabulary) (k : Kind) (numbers : Y → Numbers) (words : List ℕ) (p : Y) (b : ClosedBoard X) (q : Y) : Type 0 where
   pub counts : SameCounts v b.counts.concepts b.counts.roles
-  pub beyond : KeptBeyond (room b.counts.concepts b.counts.roles) words b.words.now
+  pub beyond : KeptBeyond (words_needed b.counts.concepts b.counts.roles) words b.words.now
   pub size : (numbers q).size ≡ (numbers p).size
   pub events : List Event
   pub history : History v k events (moment_of numbers b q)
   pub all_done : AllDone v (moment_of numbers b q)
   pub sane : Sane (length v.concepts) v.roles k (content_of b)
-  pub truthful : (a d : ℕ) → Named v a → d < length v.concepts → Truthful v k a d ((content_of b).found (under a d))
+  pub truthful : TrueGrades v k (content_of b)

@@ -4,11 +4,10 @@ use Rattle.grades.specs.Kinds.{Kind}
 use Rattle.piles.specs.Sets.{Numbers}
 use Rattle.terms.specs.Vocabularies.{Vocabulary}
 use Rattle.saturation.specs.declared.Outcome.TheVariants.{Finished}
-use Rattle.saturation.specs.Boards.{Sane}
 use Rattle.saturation.specs.Histories.{Event}
 use Rattle.saturation.specs.Runs.{Runs}
 use Rattle.board.specs.Stages.{OpenBoard}
-use Rattle.board.specs.Views.{content_of, moment_of}
+use Rattle.board.specs.Views.{moment_of, SaneBoard}
 use Rattle.staging.specs.declared.hands.Hand.{Hand}
 use Rattle.staging.specs.declared.hands.Hand.TheVariants.{Empty, Holding, Owing}
 use Rattle.staging.specs.declared.hands.Refusal.TheVariants.{OtherHand}
@@ -41,4 +40,4 @@ pub record Answered (wants leaves : Hand → Bool) (h : Hand) (s : Shown) : Type
 -- a run without a limit came to its end
 abbrev pub RanOut : {X Y : Type 0} → Vocabulary → Kind → (Y → Numbers) → OpenBoard X → Y → OpenBoard X → Y → Type 0
 RanOut v k numbers a p b q =
-    Sane a.counts.concepts a.counts.roles k (content_of a) → (steps : ℕ) × (es : List Event) × Runs v k 18446744073709551615 Finished steps es (moment_of numbers a p) (moment_of numbers b q)
+    SaneBoard k a → (steps : ℕ) × (es : List Event) × Runs v k 18446744073709551615 Finished steps es (moment_of numbers a p) (moment_of numbers b q)

@@ -28,11 +28,11 @@ Earlier roles n c = (concepts_named c ≤ n) × (roles_named c ≤ roles)
 abbrev pub AllEarlier : ℕ → ℕ → List Concept → Type 0
 AllEarlier roles n cs = (k : ℕ) → k < n → Earlier roles k (slice_index_or cs k Atomic)
 
--- an inclusion that no list has
+-- what stands for an inclusion beyond the end of a list
 abbrev pub blank : Inclusion
 blank = record { sub = 0; sup = 0; code = 0 }
 
--- each of the first m inclusions of a list does
+-- each of the first m inclusions of a list names concepts below n
 abbrev pub AllNamed : ℕ → ℕ → List Inclusion → Type 0
 AllNamed n m is = (k : ℕ) → k < m → NamesBelow n (slice_index_or is k blank)
 

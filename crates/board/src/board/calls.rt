@@ -7,7 +7,7 @@ ghost use Rattle.board.specs.Views.{content_of, moment_of};
 ghost use Rattle.board.specs.Frames.{Framed, Kept};
 ghost use Rattle.board.specs.Raises.{Ready};
 ghost use Rattle.board.specs.Refusals.{IsHeld, Unready};
-ghost use Rattle.board.specs.Calls.{StaysSane, Taken, Stepped, LoweredBy, RecheckedBy};
+ghost use Rattle.board.specs.Calls.{StaysSane, Taken, Tried, Stepped, LoweredBy, RecheckedBy};
 
 use super::OpenBoard;
 use super::states::Change;
@@ -48,6 +48,7 @@ impl<'a, K: GradeKind> OpenBoard<'a, K> {
         ensures kept { Kept P.Pile.numbers self.old pile.old self.new pile.new }
         ensures sane { StaysSane K.GradeKind.kind self.old self.new }
         ensures taken { Taken P.Pile.numbers self.old pile.old self.new pile.new result }
+        ensures tried { Tried (P.Pile.front pile.old) self.old result }
     {
         if P::size(pile) < self.counts.concepts {
             return Err(Rejection::SmallPile);

@@ -2,9 +2,9 @@
 ghost use Rattle.std.specs.Prelude.{◌≡◌, ◌+◌, ◌<◌, ◌≤◌, length};
 ghost use Rattle.rejections.specs.declared.Rejection.{Rejection as Reason};
 ghost use Rattle.terms.specs.Views.{terms_of};
-ghost use Rattle.board.specs.Layout.{room};
+ghost use Rattle.board.specs.Layout.{words_needed};
 ghost use Rattle.board.specs.Frames.{Kept};
-ghost use Rattle.board.specs.Making.{Filled, Blank, Begun};
+ghost use Rattle.board.specs.Making.{FilledWords, Blank, Begun};
 ghost use Rattle.board.specs.Refusals.{MakeRejected, InOrder};
 ghost use Rattle.board.specs.Calls.{MadeBy, MadeEmpty};
 
@@ -19,10 +19,10 @@ use std::marker::PhantomData;
 use terms::terms::Terms;
 
 /// Writes `g` to the words from `low` up to `high`.
-// A function of its own, since `Filled` says once, for both uses, what the slice's `fill` leaves.
+// A function of its own, since `FilledWords` says once, for both uses, what the slice's `fill` leaves.
 fn fill(words: &mut [u16], low: usize, high: usize, g: u16)
     requires { (low ≤ high) × (high ≤ length words.old) }
-    ensures { Filled low high g words.old words.new }
+    ensures { FilledWords low high g words.old words.new }
 {
     words[low..high].fill(g);
 }
@@ -30,7 +30,7 @@ fn fill(words: &mut [u16], low: usize, high: usize, g: u16)
 impl<'a, K: GradeKind> OpenBoard<'a, K> {
     /// A board on which nothing is found.
     fn blank(terms: &Terms, words: &'a mut [u16], kind: K) -> Self
-        requires { room (length (terms_of terms.now).concepts) (terms_of terms.now).roles ≤ length words.old }
+        requires { words_needed (length (terms_of terms.now).concepts) (terms_of terms.now).roles ≤ length words.old }
         ensures blank { Blank (terms_of terms.now) K.GradeKind.kind words.old result }
         ensures lent { result.words.ghost_name ≡ words.entry.ghost_name }
     {

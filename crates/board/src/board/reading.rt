@@ -4,6 +4,7 @@ ghost use Rattle.terms.specs.Views.{terms_of};
 ghost use Rattle.reasoning.specs.Derivations.{Fits, fact_of};
 ghost use Rattle.saturation.specs.Boards.{First, QuietAt, Quiet};
 ghost use Rattle.board.specs.Views.{content_of, read_of};
+ghost use Rattle.board.specs.Counts.{SameCounts};
 
 use super::Board;
 use crate::reader::Reader;
@@ -59,8 +60,7 @@ impl<'a, K: GradeKind, S> Board<'a, K, S> {
 
     /// The first job that waits at a concept.
     pub(crate) fn first(&self, terms: &Terms, c: u16) -> Option<Job>
-        requires concepts { self.now.counts.concepts ≡ length (terms_of terms.now).concepts }
-        requires roles { self.now.counts.roles ≡ (terms_of terms.now).roles }
+        requires counts { SameCounts (terms_of terms.now) self.now.counts.concepts self.now.counts.roles }
         requires left { c < length (terms_of terms.now).concepts }
         ensures { MatchOption result (QuietAt (terms_of terms.now) (content_of self.now) c) (First (terms_of terms.now) (content_of self.now) c) }
     {
@@ -69,8 +69,7 @@ impl<'a, K: GradeKind, S> Board<'a, K, S> {
 
     /// Whether a job waits anywhere.
     pub(crate) fn any_waits(&self, terms: &Terms) -> bool
-        requires concepts { self.now.counts.concepts ≡ length (terms_of terms.now).concepts }
-        requires roles { self.now.counts.roles ≡ (terms_of terms.now).roles }
+        requires { SameCounts (terms_of terms.now) self.now.counts.concepts self.now.counts.roles }
         ensures waits { result ≡ true → Quiet (terms_of terms.now) (content_of self.now) → ⊥ }
         ensures quiet { result ≡ false → Quiet (terms_of terms.now) (content_of self.now) }
     {

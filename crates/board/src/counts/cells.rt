@@ -2,7 +2,7 @@
 ghost use Rattle.std.specs.Prelude.{◌≡◌, ◌+◌, ◌*◌, ◌<◌, ◌≤◌, true, false, length};
 ghost use Rattle.terms.specs.Views.{terms_of};
 ghost use Rattle.reasoning.specs.Derivations.{Fits, fact_of};
-ghost use Rattle.board.specs.Layout.{place, room};
+ghost use Rattle.board.specs.Layout.{place, words_needed};
 ghost use Rattle.board.specs.Views.{spot, mark};
 ghost use Rattle.board.specs.Counts.{SameCounts};
 
@@ -31,7 +31,7 @@ impl Counts {
 
     /// How many words a board needs.
     pub(crate) fn words(self) -> usize
-        ensures { result ≡ room self.concepts self.roles }
+        ensures { result ≡ words_needed self.concepts self.roles }
     {
         self.concepts * self.concepts * (3 + 2 * self.roles) + self.concepts
     }
@@ -41,7 +41,7 @@ impl Counts {
         requires { (plane < 3 + 2 * self.roles) × ((c < self.concepts) × (d < self.concepts)) }
         ensures is { result ≡ place self.concepts plane c d }
         ensures above { self.concepts ≤ result }
-        ensures inside { result < room self.concepts self.roles }
+        ensures inside { result < words_needed self.concepts self.roles }
     {
         self.concepts + (plane * self.concepts + c as usize) * self.concepts + d as usize
     }
@@ -51,7 +51,7 @@ impl Counts {
         requires { Fits self.concepts self.roles fact }
         ensures is { result ≡ spot self.concepts fact }
         ensures above { self.concepts ≤ result }
-        ensures inside { result < room self.concepts self.roles }
+        ensures inside { result < words_needed self.concepts self.roles }
     {
         match fact {
             Fact::Under(c, d) => self.cell(0, c, d),
@@ -64,7 +64,7 @@ impl Counts {
         requires { Fits self.concepts self.roles (fact_of job) }
         ensures is { result ≡ mark self.concepts self.roles job }
         ensures above { self.concepts ≤ result }
-        ensures inside { result < room self.concepts self.roles }
+        ensures inside { result < words_needed self.concepts self.roles }
     {
         match job {
             Job::Own(c, d) => self.cell(1, c, d),

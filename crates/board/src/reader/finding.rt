@@ -6,7 +6,7 @@ ghost use Rattle.reasoning.specs.Derivations.{Fits, fact_of};
 ghost use Rattle.saturation.specs.Boards.{Rests, Waits, First, QuietAt, Quiet};
 ghost use Rattle.board.specs.Counts.{SameCounts};
 ghost use Rattle.board.specs.Views.{read_of};
-ghost use Rattle.board.specs.Searches.{job_of, Lies, NoneBelow, FirstBelow, BestLink, NoImplications, FirstImplication, QuietWhere};
+ghost use Rattle.board.specs.Searches.{job_of, InRange, NoneBelow, FirstBelow, BestLink, NoImplications, FirstImplication, QuietWhere};
 
 use super::Reader;
 use super::cells::fact_of;
@@ -18,7 +18,7 @@ use terms::terms::Terms;
 
 /// A link job, by its concepts.
 #[derive(Clone, Copy)]
-struct Link {
+struct LinkJob {
     left: u16,
     right: u16,
 }
@@ -60,7 +60,7 @@ impl<'b> Reader<'b> {
 
     /// The number of the first job of a line that waits, of those below `end`.
     fn first_in(&self, line: Line, end: u16) -> Option<u16>
-        requires lies { Lies self.now.counts.concepts self.now.counts.roles line }
+        requires range { InRange self.now.counts.concepts self.now.counts.roles line }
         requires end { end ≤ self.now.counts.concepts }
         ensures { MatchOption result (NoneBelow (read_of self.now) line end) (FirstBelow (read_of self.now) line end) }
     {
@@ -69,7 +69,7 @@ impl<'b> Reader<'b> {
 
     /// The first job of a line that waits.
     fn first_on(&self, line: Line) -> Option<Job>
-        requires { Lies self.now.counts.concepts self.now.counts.roles line }
+        requires { InRange self.now.counts.concepts self.now.counts.roles line }
         ensures { MatchOption result (NoneBelow (read_of self.now) line self.now.counts.concepts) (λ j. (i : ℕ) × (j ≡ job_of line i) × FirstBelow (read_of self.now) line self.now.counts.concepts i) }
     {
         self.first_in(line, self.counts.concepts as u16)
@@ -106,7 +106,7 @@ impl<'b> Reader<'b> {
 
 impl<'b> Reading<'b> {
     /// The first link job that waits at `c`, where `best` is the first of those by concepts below `x`, and those by `x` come in too.
-    fn better_link(&self, c: u16, x: u16, best: Option<Link>) -> Option<Link>
+    fn better_link(&self, c: u16, x: u16, best: Option<LinkJob>) -> Option<LinkJob>
         requires by { x < length (terms_of self.now.terms.now).concepts }
         requires best { BestLink (terms_of self.now.terms.now) (read_of self.now.reader) c x best }
         ensures { BestLink (terms_of self.now.terms.now) (read_of self.now.reader) c (x + 1) result }
@@ -120,12 +120,12 @@ impl<'b> Reading<'b> {
         let end = best.map_or(self.reader.counts.concepts as u16, |link| link.left);
         self.reader
             .first_in(Line::Links(x), end)
-            .map(|left| Link { left, right: x })
+            .map(|left| LinkJob { left, right: x })
             .or(best)
     }
 
     /// The first link job that waits at `c`.
-    fn first_link(&self, c: u16) -> Option<Link>
+    fn first_link(&self, c: u16) -> Option<LinkJob>
         ensures { BestLink (terms_of self.now.terms.now) (read_of self.now.reader) c (length (terms_of self.now.terms.now).concepts) result }
     {
         // A `fold` is no plainer: it hands on the same best, and owes at each call what the invariant says once.

@@ -1,8 +1,8 @@
 //! What a table of marks does: its making, and the calls of a pile.
-ghost use Rattle.std.specs.Prelude.{◌≡◌, ℕ, false, not, ◌==◌, position};
-ghost use Rattle.piles.specs.Sets.{Put, Drew};
-ghost use Rattle.piles.specs.Lists.{room, own, RestKept};
-ghost use Rattle.piles.specs.Tables.{in_marks, Smallest};
+ghost use Rattle.std.specs.Prelude.{◌≡◌};
+ghost use Rattle.piles.specs.Sets.{Empty, Put, Drew};
+ghost use Rattle.piles.specs.Lists.{room, RestKept};
+ghost use Rattle.piles.specs.Tables.{in_marks, smallest_in, Smallest};
 
 use super::Marks;
 use crate::lent::{clear, is_held, own_of, room_in};
@@ -13,7 +13,7 @@ impl<'a> Marks<'a> {
     /// An empty pile, whatever the list held.
     pub fn new(list: &'a mut [u16]) -> Marks<'a>
         ensures size { (in_marks result).size ≡ room list.old }
-        ensures none { (y : ℕ) → (in_marks result).holds y ≡ false }
+        ensures none { Empty (in_marks result) }
         ensures kept { RestKept list.entry result.list }
     {
         clear(list);
@@ -22,7 +22,7 @@ impl<'a> Marks<'a> {
 
     // The smallest number held.
     fn smallest(&self) -> Option<usize>
-        ensures { result ≡ position (λ entry. not (entry == 0)) (own self.now.list.now) }
+        ensures { result ≡ smallest_in self.now }
     {
         own_of(self.list).iter().position(|entry| *entry != 0)
     }
@@ -30,6 +30,7 @@ impl<'a> Marks<'a> {
 
 impl<'a> Pile for Marks<'a> {
     ghost numbers = { in_marks };
+    ghost front = { smallest_in };
 
     // Said for each pile, here and in the ring: a type around the list would have to be forwarded to just so.
     fn size(&self) -> usize {
@@ -63,6 +64,7 @@ impl<'a> Pile for Marks<'a> {
 
     fn draw(&mut self) -> Option<u16>
         ensures set { Drew (in_marks self.old) (in_marks self.new) result }
+        ensures front { result ≡ smallest_in self.old }
         ensures smallest { Smallest (in_marks self.old) result }
         ensures kept { RestKept self.old.list self.new.list }
     {

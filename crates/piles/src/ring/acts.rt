@@ -1,8 +1,8 @@
 //! What a ring does: its making, and the calls of a pile.
-ghost use Rattle.std.specs.Prelude.{◌≡◌, ℕ, false, []};
-ghost use Rattle.piles.specs.Sets.{Put, Drew};
+ghost use Rattle.std.specs.Prelude.{◌≡◌, []};
+ghost use Rattle.piles.specs.Sets.{Empty, Put, Drew};
 ghost use Rattle.piles.specs.Lists.{room, RestKept};
-ghost use Rattle.piles.specs.Orders.{in_ring, order, Queued, Served};
+ghost use Rattle.piles.specs.Orders.{in_ring, order, longest_in, Queued, Served};
 
 use super::Ring;
 use crate::lent::{clear, is_held, room_in};
@@ -13,7 +13,7 @@ impl<'a> Ring<'a> {
     /// An empty pile, whatever the list held.
     pub fn new(list: &'a mut [u16]) -> Ring<'a>
         ensures size { (in_ring result).size ≡ room list.old }
-        ensures none { (y : ℕ) → (in_ring result).holds y ≡ false }
+        ensures none { Empty (in_ring result) }
         ensures order { order result ≡ [] }
         ensures kept { RestKept list.entry result.list }
     {
@@ -29,6 +29,7 @@ impl<'a> Ring<'a> {
 
 impl<'a> Pile for Ring<'a> {
     ghost numbers = { in_ring };
+    ghost front = { longest_in };
 
     fn size(&self) -> usize {
         room_in(self.list)
@@ -71,6 +72,7 @@ impl<'a> Pile for Ring<'a> {
     #[tactic(auto, using(crate::proofs::Rings::head_below))]
     fn draw(&mut self) -> Option<u16>
         ensures set { Drew (in_ring self.old) (in_ring self.new) result }
+        ensures front { result ≡ longest_in self.old }
         ensures order { Served (order self.old) (order self.new) result }
         ensures kept { RestKept self.old.list self.new.list }
     {

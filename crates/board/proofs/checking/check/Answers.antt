@@ -1,6 +1,6 @@
 use Rattle.std.proofs.Common.{◌≡◌, ℕ, ◌<◌, true, ◌⊎◌, length, inl, inr, ap₂, arith}
 use Rattle.terms.specs.Views.{terms_of}
-use Rattle.board.specs.Layout.{room}
+use Rattle.board.specs.Layout.{words_needed}
 use Rattle.board.specs.Refusals.{MakeRejected}
 use Rattle.board.proofs.Tallies.{tally_found, count_none}
 use Rattle.board.proofs.checking.check.Goals as goal
@@ -15,16 +15,16 @@ returns-then-size-counts g c =
       | then-size-counts-via-then-size-counts w ↦ inl (let l = w.if-size-counts.true in omega (arith, c.of-counts.ensures.concepts))
       | then-size-counts-via-else-size-counts+then-count-gt0 w ↦ inr (tally_found s.holds s.size (let l = w.if-count-gt0.true in let q = w.count.ensures in omega arith))
     ] in
-    MakeRejected.unfit_pile c.in_ok-check_codes.ensures (omega (arith, ap₂ room c.of-counts.ensures.concepts c.of-counts.ensures.roles)) why
+    MakeRejected.unfit_pile c.in_ok-check_codes.ensures (omega (arith, ap₂ words_needed c.of-counts.ensures.concepts c.of-counts.ensures.roles)) why
 
 pub returns-then-words : goal.returns-then-words
-returns-then-words g c = MakeRejected.too_few_words c.in_ok-check_codes.ensures (omega (arith, ap₂ room c.of-counts.ensures.concepts c.of-counts.ensures.roles))
+returns-then-words g c = MakeRejected.too_few_words c.in_ok-check_codes.ensures (omega (arith, ap₂ words_needed c.of-counts.ensures.concepts c.of-counts.ensures.roles))
 
 pub returns : goal.returns
 returns g c =
     record {
       coded = c.in_ok-check_codes.ensures;
-      enough = omega (arith, ap₂ room c.of-counts.ensures.concepts c.of-counts.ensures.roles);
+      enough = omega (arith, ap₂ words_needed c.of-counts.ensures.concepts c.of-counts.ensures.roles);
       wide = omega (arith, c.of-counts.ensures.concepts);
       empty = count_none (g.P.Pile.numbers c.args.pile.now) (omega arith);
     }

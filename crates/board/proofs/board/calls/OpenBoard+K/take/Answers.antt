@@ -1,4 +1,4 @@
-use Rattle.std.proofs.Common.{◌≡◌, ℕ, ◌<◌, refl, ◌∙◌, arith, rules}
+use Rattle.std.proofs.Common.{◌≡◌, ℕ, ◌<◌, refl, sym, ◌∙◌, arith, rules}
 use Rattle.saturation.specs.declared.State.TheVariants.{Queued}
 use Rattle.board.specs.declared.board.states.Change.TheVariants.{Take}
 use Rattle.board.specs.Views.{content_of}
@@ -18,6 +18,7 @@ returns-in_default g c =
       kept = record { frame = framed_same; size = search rules };
       sane = λ S. S;
       taken = (TakeRejected.empty_pile (omega arith) (search rules), refl, search rules, λ e. let z : ◌≡◌ {A = ℕ} 0 1 = cc in absurd (omega arith));
+      tried = λ e. let z : ◌≡◌ {A = ℕ} 0 1 = cc in absurd (omega arith);
     }
 
 pub returns : goal.returns
@@ -38,4 +39,5 @@ returns g c =
       kept = record { frame = framed_is both.0; size = B.0 };
       sane = sane_is both.0 g.K.GradeKind.kind;
       taken = (TakeRejected.not_queued (omega arith) (x, D.1, both.1), both.0, B.1, λ e. let z : ◌≡◌ {A = ℕ} 0 1 = cc in absurd (omega arith));
+      tried = λ _. (x, sym c.in-Some.ensures.front, both.1);
     }

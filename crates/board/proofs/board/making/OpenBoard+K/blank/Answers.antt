@@ -1,7 +1,7 @@
 use Rattle.std.proofs.Common.{◌≡◌, sym, refl, ap, ◌∙◌, subst₂, arith, length}
 use Rattle.terms.specs.Views.{terms_of}
 use Rattle.reasoning.specs.Derivations.{Fits, fact_of}
-use Rattle.board.specs.Layout.{room}
+use Rattle.board.specs.Layout.{words_needed}
 use Rattle.board.specs.Views.{spot, mark, state_of}
 use Rattle.board.proofs.Words.{spot_inside, mark_inside}
 use Rattle.board.proofs.board.making.OpenBoard+K.blank.Goals as goal
@@ -14,7 +14,7 @@ returns g c =
     let en : n ≡ length v.concepts = c.of-counts.ensures.concepts in
     let em : m ≡ v.roles = c.of-counts.ensures.roles in
     let F = c.fill-2.ensures in
-    let need_words : c.words.result ≡ room n m = c.words.ensures in
+    let need_words : c.words.result ≡ words_needed n m = c.words.ensures in
     let none : c.none.result ≡ g.K.GradeKind.kind.none = c.none.ensures in
     record {
       blank = record {

@@ -2,7 +2,7 @@ use Rattle.std.proofs.Common.{◌≡◌, ◌≤◌, length, sym, ap, ◌∙◌, 
 use Rattle.terms.specs.Views.{terms_of}
 use Rattle.saturation.specs.Boards.{Sane}
 use Rattle.saturation.specs.Effects.{Made}
-use Rattle.board.specs.Layout.{room}
+use Rattle.board.specs.Layout.{words_needed}
 use Rattle.board.specs.Views.{content_of, moment_of}
 use Rattle.board.proofs.Beginning.{begun_all, made_sane, not_in_order}
 use Rattle.board.proofs.board.making.OpenBoard+K.make.Goals as goal
@@ -24,13 +24,13 @@ returns-clause-made g c =
     let e : c.loop-a.a ≡ length v.concepts = omega (arith, ap length c.concepts-a-end.ensures) in
     let M : Made v k (moment_of numbers b q) = begun_all v k numbers c.loop-a.a b q e B in
     λ _. record {
-      counts = B.counts;
+      counts = B.ready.counts;
       made = M;
-      sane = subst₂ (λ n m. Sane n m k (content_of b)) (sym B.counts.concepts) (sym B.counts.roles) (made_sane v k g.met.K.GradeKind.lawful (moment_of numbers b q) M);
+      sane = subst₂ (λ n m. Sane n m k (content_of b)) (sym B.ready.counts.concepts) (sym B.ready.counts.roles) (made_sane v k g.met.K.GradeKind.lawful (moment_of numbers b q) M);
       beyond = record {
         extent = K.frame.beyond.extent ∙ Z.beyond.extent;
         further = λ i h.
-            let h' : room first.counts.concepts first.counts.roles ≤ i = subst₂ (λ n m. room n m ≤ i) K.frame.concepts K.frame.roles h in
+            let h' : words_needed first.counts.concepts first.counts.roles ≤ i = subst₂ (λ n m. words_needed n m ≤ i) K.frame.concepts K.frame.roles h in
             K.frame.beyond.further i h' ∙ Z.beyond.further i h';
       };
     }

@@ -18,8 +18,8 @@ returns-then-is_named-clause-begun g c =
     let p = c.args.pile.now in
     let q = c.queue.new.pile in
     let x = c.args.a in
-    let en = c.requires.begun.counts.concepts in
-    let em = c.requires.begun.counts.roles in
+    let en = c.requires.begun.ready.counts.concepts in
+    let em = c.requires.begun.ready.counts.roles in
     let F = c.write_found.ensures.frame in
     let W : Wrote (length v.concepts) v.roles (under x x) k.all (content_of a) (content_of b) =
     subst (λ u. Wrote (length v.concepts) v.roles (under x x) u (content_of a) (content_of b)) c.all.ensures

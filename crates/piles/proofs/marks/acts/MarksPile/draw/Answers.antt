@@ -1,4 +1,4 @@
-use Rattle.std.proofs.Common.{◌≡◌, ℕ, ◌<◌, false, true, refl, sym, subst, arith, length-set}
+use Rattle.std.proofs.Common.{◌≡◌, ℕ, ◌<◌, false, true, refl, sym, ◌∙◌, subst, arith, length-set}
 use Rattle.piles.specs.Sets.{Drew}
 use Rattle.piles.specs.Lists.{room, held}
 use Rattle.piles.specs.Tables.{in_marks}
@@ -15,6 +15,9 @@ returns-in_err-first-clause-set c =
     let m = in_marks c.args.self.now in
     subst (Drew m m) (sym c.from_residual.ensures) (refl, first_none c.args.self.now.list.now (sym c.in_err-first.ensures), λ y. refl)
 
+pub returns-in_err-first-clause-front : goal.returns-in_err-first-clause-front
+returns-in_err-first-clause-front c = c.from_residual.ensures ∙ c.in_err-first.ensures
+
 pub offset_bounds-self-first : goal.offset_bounds-self-first
 offset_bounds-self-first c = omega (arith, (first c).0)
 
@@ -28,6 +31,9 @@ pub returns-clause-set : goal.returns-clause-set
 returns-clause-set c =
     let l = c.args.self.now.list.now in
     (simp length-set refl, (first c).1, held_without l c.in_ok-first.first (first c).0)
+
+pub returns-clause-front : goal.returns-clause-front
+returns-clause-front c = c.in_ok-first.ensures
 
 pub returns-clause-smallest : goal.returns-clause-smallest
 returns-clause-smallest c = (first c).2
