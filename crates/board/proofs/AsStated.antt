@@ -33,38 +33,29 @@ module _ (v : Vocabulary) (k : Kind) (L : Lawful k) (c : ℕ) (j : Job) (a b : M
   waits : (i : Job) → Within v (fact_of i) → (a.board.found (fact_of i) ≡ b.board.found (fact_of i) → ⊥) → Waits b.board i
   waits i w ne e =
       ⊎_elim
-      (λ q. ne (ap (λ u. a.board.found (fact_of u)) q ∙ sym W.marked ∙ ap b.board.done (sym q) ∙ e))
-      (λ n. let d : a.board.done i ≡ b.board.found (fact_of i) = sym (W.unmarked i w n) ∙ e in
+      (λ q. ne (ap (λ u. a.board.found (fact_of u)) q ∙ sym W.deed.marked ∙ ap b.board.done (sym q) ∙ e))
+      (λ n. let d : a.board.done i ≡ b.board.found (fact_of i) = sym (W.deed.unmarked i w n) ∙ e in
       ne (L.same (a.board.found (fact_of i)) (b.board.found (fact_of i)) (S.found (fact_of i) w) (coded (fact_of i) w)
-      (λ p l. same_test (k.holds (a.board.found (fact_of i)) p) (k.holds (b.board.found (fact_of i)) p) (W.kept (fact_of i) p w l) (λ t. S.below i p w l (subst (λ u. k.holds u p ≡ true) (sym d) t)))))
+      (λ p l. same_test (k.holds (a.board.found (fact_of i)) p) (k.holds (b.board.found (fact_of i)) p) (W.deed.grows.kept (fact_of i) p w l) (λ t. S.below i p w l (subst (λ u. k.holds u p ≡ true) (sym d) t)))))
       (same_jobs i j)
 
   pub as_stated : Worked v k c j a b
   as_stated = record {
-    within = W.within;
-    held = W.held;
-    first = W.first;
-    marked = W.marked;
-    unmarked = W.unmarked;
-    kept = W.kept;
-    drew = W.drew;
-    only = W.only;
+    deed = W.deed;
     codes = coded;
     queues = λ x i t. W.queues x i (t.0, t.1, t.2);
     leaves = λ x h n. W.leaves x h (λ i t. n i (t.0, t.1, t.2, waits t.0 (at_within _ t.1) t.2));
-    beyond = W.beyond;
-    counted = W.counted;
   }
 
   pub still_sane : Sane (length v.concepts) v.roles k b.board
   still_sane =
-      let J : Within v (fact_of j) = at_within _ W.first.at in
+      let J : Within v (fact_of j) = at_within _ W.deed.first.at in
       record {
         found = coded;
-        done = λ i w. ⊎_elim (λ q. subst (λ u. u < k.codes) (sym (ap b.board.done q ∙ W.marked)) (S.found (fact_of j) J)) (λ n. subst (λ u. u < k.codes) (sym (W.unmarked i w n)) (S.done i w)) (same_jobs i j);
+        done = λ i w. ⊎_elim (λ q. subst (λ u. u < k.codes) (sym (ap b.board.done q ∙ W.deed.marked)) (S.found (fact_of j) J)) (λ n. subst (λ u. u < k.codes) (sym (W.deed.unmarked i w n)) (S.done i w)) (same_jobs i j);
         below = λ i p w l t. ⊎_elim
-            (λ q. W.kept (fact_of i) p w l (subst (λ u. k.holds u p ≡ true) (ap b.board.done q ∙ W.marked ∙ ap (λ u. a.board.found (fact_of u)) (sym q)) t))
-            (λ n. W.kept (fact_of i) p w l (S.below i p w l (subst (λ u. k.holds u p ≡ true) (W.unmarked i w n) t)))
+            (λ q. W.deed.grows.kept (fact_of i) p w l (subst (λ u. k.holds u p ≡ true) (ap b.board.done q ∙ W.deed.marked ∙ ap (λ u. a.board.found (fact_of u)) (sym q)) t))
+            (λ n. W.deed.grows.kept (fact_of i) p w l (S.below i p w l (subst (λ u. k.holds u p ≡ true) (W.deed.unmarked i w n) t)))
             (same_jobs i j);
       }
 

@@ -1,5 +1,5 @@
 -- One or two concepts queued, where those are the ones with a job of the fact.
-use Rattle.std.proofs.Common.{◌≡◌, ℕ, ◌<◌, true, ◌⊎◌, length, sym, refl, ◌∙◌, subst, subst₂, inl, inr, ⊎_elim, arith}
+use Rattle.std.proofs.Common.{◌≡◌, ℕ, ◌<◌, ◌⊎◌, length, sym, refl, ◌∙◌, subst, subst₂, inl, inr, ⊎_elim, arith}
 use Rattle.std.proofs.lemmas.Bool.{cases_eq}
 use Rattle.terms.specs.Vocabularies.{Vocabulary, Is}
 use Rattle.terms.specs.declared.records.Concept.TheVariants.{Restriction}
@@ -8,7 +8,7 @@ use Rattle.reasoning.specs.declared.Fact.{Fact}
 use Rattle.reasoning.specs.declared.Job.{Job}
 use Rattle.saturation.specs.Boards.{Board, Moment, Stays, InLine}
 use Rattle.saturation.specs.Effects.{SameGrades}
-use Rattle.saturation.specs.declared.State.TheVariants.{Idle, Queued}
+use Rattle.saturation.specs.declared.State.TheVariants.{Idle}
 use Rattle.reasoning.specs.declared.Fact.TheVariants.{Under as under, Implies as implies}
 use Rattle.reasoning.specs.declared.Job.TheVariants.{Own as own, Link as link, Imply as imply}
 use Rattle.saturation.proofs.Places.{idle≢queued}

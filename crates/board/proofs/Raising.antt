@@ -41,9 +41,7 @@ module _ (v : Vocabulary) (k : Kind) (L : Lawful k) (J : Seated v) where
   raises_nothing a = record {
     done = λ _ _. refl;
     steps = refl;
-    kept = λ _ _ _ _ h. h;
-    drew = λ _ _ _ _ h. absurd h;
-    only = λ _ _ _ _ h. inl h;
+    grows = record { kept = λ _ _ _ _ h. h; drew = λ _ _ _ _ h. absurd h; only = λ _ _ _ _ h. inl h };
     codes = λ _ _. inl refl;
     queues = λ x i t. absurd (t.2 refl);
     states = λ x h. inl (refl, refl);
@@ -55,9 +53,7 @@ module _ (v : Vocabulary) (k : Kind) (L : Lawful k) (J : Seated v) where
   raises_alike P Q a b R to from = record {
     done = R.done;
     steps = R.steps;
-    kept = R.kept;
-    drew = λ f p w h q. R.drew f p w h (from f p q);
-    only = λ f p w h t. ⊎_elim inl (λ q. inr (to f p q)) (R.only f p w h t);
+    grows = record { kept = R.grows.kept; drew = λ f p w h q. R.grows.drew f p w h (from f p q); only = λ f p w h t. ⊎_elim inl (λ q. inr (to f p q)) (R.grows.only f p w h t) };
     codes = R.codes;
     queues = R.queues;
     states = R.states;
@@ -66,7 +62,7 @@ module _ (v : Vocabulary) (k : Kind) (L : Lawful k) (J : Seated v) where
 
   module _ (P Q : Fact → ℕ → Type 0) (a b c : Moment) (R : Raises v k P a b) (S : Raises v k Q b c) where
     back : (f : Fact) → Within v f → a.board.found f ≡ c.board.found f → (a.board.found f ≡ b.board.found f) × (b.board.found f ≡ c.board.found f)
-    back f w = no_return k L (a.board.found f) (b.board.found f) (c.board.found f) (λ p h. R.kept f p w h) (λ p h. S.kept f p w h) (R.codes f w) (S.codes f w)
+    back f w = no_return k L (a.board.found f) (b.board.found f) (c.board.found f) (λ p h. R.grows.kept f p w h) (λ p h. S.grows.kept f p w h) (R.codes f w) (S.codes f w)
 
     later : (x : ℕ) → Touched v b.board c.board x → Touched v a.board c.board x
     later x (j, w, ne) = (j, w, λ e. ne (back (fact_of j) (at_within _ w) e).1)
@@ -99,9 +95,11 @@ module _ (v : Vocabulary) (k : Kind) (L : Lawful k) (J : Seated v) where
     raises_then = record {
       done = λ j w. S.done j w ∙ R.done j w;
       steps = S.steps ∙ R.steps;
-      kept = λ f p w h t. S.kept f p w h (R.kept f p w h t);
-      drew = λ f p w h. ⊎_elim (λ q. S.kept f p w h (R.drew f p w h q)) (S.drew f p w h);
-      only = λ f p w h t. ⊎_elim (λ u. ⊎_elim inl (λ q. inr (inl q)) (R.only f p w h u)) (λ q. inr (inr q)) (S.only f p w h t);
+      grows = record {
+        kept = λ f p w h t. S.grows.kept f p w h (R.grows.kept f p w h t);
+        drew = λ f p w h. ⊎_elim (λ q. S.grows.kept f p w h (R.grows.drew f p w h q)) (S.grows.drew f p w h);
+        only = λ f p w h t. ⊎_elim (λ u. ⊎_elim inl (λ q. inr (inl q)) (R.grows.only f p w h u)) (λ q. inr (inr q)) (S.grows.only f p w h t);
+      };
       codes = λ f w. ⊎_elim (λ e. ⊎_elim (λ e'. inl (e ∙ e')) (λ l. inr (subst (λ u. u < k.codes) (sym e) l)) (R.codes f w)) inr (S.codes f w);
       queues = both_queues;
       states = λ x h. both_states x h (R.states x h) (S.states x h);
@@ -140,10 +138,12 @@ module _ (v : Vocabulary) (k : Kind) (L : Lawful k) where
   raises_known f g a e = record {
     done = λ _ _. refl;
     steps = refl;
-    kept = λ _ _ _ _ h. h;
-    drew = λ h p w l q. subst (λ u. k.holds (a.board.found u) p ≡ true) (sym q.0)
-        (subst (λ u. k.holds u p ≡ true) e (L.join_holds (a.board.found f) g p l ∙ or_right (k.holds (a.board.found f) p) (k.holds g p) q.1));
-    only = λ _ _ _ _ h. inl h;
+    grows = record {
+      kept = λ _ _ _ _ h. h;
+      drew = λ h p w l q. subst (λ u. k.holds (a.board.found u) p ≡ true) (sym q.0)
+          (subst (λ u. k.holds u p ≡ true) e (L.join_holds (a.board.found f) g p l ∙ or_right (k.holds (a.board.found f) p) (k.holds g p) q.1));
+      only = λ _ _ _ _ h. inl h;
+    };
     codes = λ _ _. inl refl;
     queues = λ x i t. absurd (t.2 refl);
     states = λ x h. inl (refl, refl);
@@ -174,9 +174,11 @@ module _ (v : Vocabulary) (k : Kind) (L : Lawful k) where
     raises_new J = record {
       done = λ j w. called.grades.done j w ∙ wrote.done j w;
       steps = called.grades.steps ∙ wrote.steps;
-      kept = λ h p w l t. ⊎_elim (λ e. truth h p w l e ∙ or_left (k.holds (a.board.found h) p) (k.holds g p) t) (λ n. subst (λ u. k.holds u p ≡ true) (sym (elsewhere h w n)) t) (fact_cases f h);
-      drew = λ h p w l q. truth h p w l q.0 ∙ or_right (k.holds (a.board.found h) p) (k.holds g p) q.1;
-      only = λ h p w l t. ⊎_elim (λ e. ⊎_elim inl (λ q. inr (e, q)) (or_true (k.holds (a.board.found h) p) (k.holds g p) (sym (truth h p w l e) ∙ t))) (λ n. inl (subst (λ u. k.holds u p ≡ true) (elsewhere h w n) t)) (fact_cases f h);
+      grows = record {
+        kept = λ h p w l t. ⊎_elim (λ e. truth h p w l e ∙ or_left (k.holds (a.board.found h) p) (k.holds g p) t) (λ n. subst (λ u. k.holds u p ≡ true) (sym (elsewhere h w n)) t) (fact_cases f h);
+        drew = λ h p w l q. truth h p w l q.0 ∙ or_right (k.holds (a.board.found h) p) (k.holds g p) q.1;
+        only = λ h p w l t. ⊎_elim (λ e. ⊎_elim inl (λ q. inr (e, q)) (or_true (k.holds (a.board.found h) p) (k.holds g p) (sym (truth h p w l e) ∙ t))) (λ n. inl (subst (λ u. k.holds u p ≡ true) (elsewhere h w n) t)) (fact_cases f h);
+      };
       codes = λ h w. ⊎_elim (λ e. inr (subst (λ u. b.board.found u < k.codes) (sym e) (subst (λ u. u < k.codes) (sym at_fact) (L.join_code (a.board.found f) g)))) (λ n. inl (elsewhere h w n)) (fact_cases f h);
       queues = λ x i t. let u = work x t in called.hit x u (wrote.state x (J u.0 x u.1) ∙ i);
       states = λ x h. ⊎_elim (λ s. inl (s.0 ∙ wrote.state x h, s.1 ∙ same_pile x)) (λ s. inr ((sym (wrote.state x h) ∙ s.0.0, s.0.1), touch x s.1)) (called.states x h);

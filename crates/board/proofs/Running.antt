@@ -54,7 +54,7 @@ module _ {X Y : Type 0} (v : Vocabulary) (k : Kind) (L : Lawful k) (numbers : Y 
     pub ongoing_more : (j : Job) (d : OpenBoard X) (r : Y) → Kept numbers b q d r → Did v k c j (moment_of numbers b q) (moment_of numbers d r) → Ongoing v k numbers c (steps + 1) a p d r
     ongoing_more j d r K D = record {
       kept = kept_then O.kept K;
-      held = (D.leaves c D.within (λ i _. idle≢held ((content_of b).state c) i O.held)).0 ∙ O.held;
+      held = (D.leaves c D.deed.within (λ i _. idle≢held ((content_of b).state c) i O.held)).0 ∙ O.held;
       still = λ e. absurd (omega arith);
       sane = λ S. outward d (still_sane v k L c j (moment_of numbers b q) (moment_of numbers d r) D (inward b (O.sane S)));
       stepping = λ S rest more es z E.

@@ -27,19 +27,23 @@ module _ (v : Vocabulary) (k : Kind) (J : Seated v) (c : ℕ) (j : Job) (P : Fac
       ((f : Fact) (p : ℕ) → Within v f → p < k.points → Draws v k b.board.done j f p → P f p) →
       ((f : Fact) (p : ℕ) → Within v f → p < k.points → P f p → Draws v k b.board.done j f p) → Did v k c j a (counted b s)
   did l H F w e to from = record {
-    within = l;
-    held = H;
-    first = F;
-    marked = R.done j w ∙ marked.here;
-    unmarked = λ i u ne. R.done i u ∙ marked.done i u ne;
-    kept = λ f p u l t. R.kept f p u l (subst (λ x. k.holds x p ≡ true) (sym (same_found f u)) t);
-    drew = λ f p u l t. R.drew f p u l (to f p u l t);
-    only = λ f p u l t. ⊎_elim (λ h. inl (subst (λ x. k.holds x p ≡ true) (same_found f u) h)) (λ h. inr (from f p u l h)) (R.only f p u l t);
+    deed = record {
+      within = l;
+      held = H;
+      first = F;
+      marked = R.done j w ∙ marked.here;
+      unmarked = λ i u ne. R.done i u ∙ marked.done i u ne;
+      grows = record {
+        kept = λ f p u l t. R.grows.kept f p u l (subst (λ x. k.holds x p ≡ true) (sym (same_found f u)) t);
+        drew = λ f p u l t. R.grows.drew f p u l (to f p u l t);
+        only = λ f p u l t. ⊎_elim (λ h. inl (subst (λ x. k.holds x p ≡ true) (same_found f u) h)) (λ h. inr (from f p u l h)) (R.grows.only f p u l t);
+      };
+      counted = e;
+      beyond = λ x h. R.beyond x h ∙ pile x;
+    };
     codes = λ f u. ⊎_elim (λ h. inl (h ∙ same_found f u)) inr (R.codes f u);
     queues = λ x i t. let y = J t.0 x t.1 in
         R.queues x (marked.state x y ∙ i) (t.0, t.1, λ q. t.2 (sym (same_found (fact_of t.0) (at_within _ t.1)) ∙ q));
     leaves = λ x h n. ⊎_elim (λ t. (t.0 ∙ marked.state x h, t.1 ∙ pile x))
         (λ t. absurd (n (sym (marked.state x h) ∙ t.0.0) (t.1.0, t.1.1, λ q. t.1.2 (same_found (fact_of t.1.0) (at_within _ t.1.1) ∙ q)))) (R.states x h);
-    beyond = λ x h. R.beyond x h ∙ pile x;
-    counted = e;
   }

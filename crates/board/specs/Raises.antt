@@ -6,9 +6,9 @@ use Rattle.terms.specs.Vocabularies.{Vocabulary}
 use Rattle.reasoning.specs.declared.Fact.{Fact}
 use Rattle.reasoning.specs.declared.Job.{Job}
 use Rattle.reasoning.specs.Derivations.{Within, JobAt, fact_of}
-use Rattle.saturation.specs.declared.State.TheVariants.{Idle, Queued}
+use Rattle.saturation.specs.declared.State.TheVariants.{Idle}
 use Rattle.saturation.specs.Boards.{Board, Moment, InLine, Stays}
-use Rattle.saturation.specs.Effects.{SameGrades}
+use Rattle.saturation.specs.Effects.{SameGrades, Grows}
 use Rattle.board.specs.Stages.{OpenBoard}
 use Rattle.board.specs.Counts.{SameCounts}
 use Rattle.board.specs.Views.{moment_of}
@@ -27,9 +27,7 @@ Works v f x = (j : Job) × JobAt v j x × (fact_of j ≡ f)
 pub record Raises (v : Vocabulary) (k : Kind) (P : Fact → ℕ → Type 0) (a b : Moment) : Type 0 where
   pub done : (j : Job) → Within v (fact_of j) → b.board.done j ≡ a.board.done j
   pub steps : b.board.steps ≡ a.board.steps
-  pub kept : (f : Fact) (p : ℕ) → Within v f → p < k.points → k.holds (a.board.found f) p ≡ true → k.holds (b.board.found f) p ≡ true
-  pub drew : (f : Fact) (p : ℕ) → Within v f → p < k.points → P f p → k.holds (b.board.found f) p ≡ true
-  pub only : (f : Fact) (p : ℕ) → Within v f → p < k.points → k.holds (b.board.found f) p ≡ true → (k.holds (a.board.found f) p ≡ true) ⊎ P f p
+  pub grows : Grows v k P a.board b.board
   pub codes : (f : Fact) → Within v f → (b.board.found f ≡ a.board.found f) ⊎ (b.board.found f < k.codes)
   pub queues : (x : ℕ) → a.board.state x ≡ Idle → Touched v a.board b.board x → InLine x b
   pub states : (x : ℕ) → x < length v.concepts → Stays x a b ⊎ (Wakes x a b × Touched v a.board b.board x)

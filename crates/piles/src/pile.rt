@@ -37,6 +37,7 @@ pub trait Pile {
 /// A borrowed pile is a pile.
 impl<'a, P: Pile> Pile for &'a mut P {
     ghost numbers = { λ s. P.Pile.numbers s.now };
+
     ghost front = { λ s. P.Pile.front s.now };
 
     fn size(&self) -> usize {

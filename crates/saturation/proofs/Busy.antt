@@ -63,14 +63,14 @@ module _ (v : Vocabulary) (wf : WellFormed v) (k : Kind) (lawful : Lawful k) whe
     rested : (x : ℕ) → (x ≡ c → ⊥) → QuietAt v b.board x → QuietAt v a.board x
     rested x n h i at =
         let t = at_within v at in
-        let other : i ≡ j → ⊥ = λ e. n (at_one_concept v (subst (λ (y : Job). JobAt v y x) e at) w.first.at) in
-        let now : a.board.done i ≡ b.board.found (fact_of i) = sym (w.unmarked i t other) ∙ h i at in
+        let other : i ≡ j → ⊥ = λ e. n (at_one_concept v (subst (λ (y : Job). JobAt v y x) e at) w.deed.first.at) in
+        let now : a.board.done i ≡ b.board.found (fact_of i) = sym (w.deed.unmarked i t other) ∙ h i at in
         lawful.same (a.board.done i) (a.board.found (fact_of i)) (sane.done i t) (sane.found (fact_of i) t) (λ p l. same_test _ _
-        (sane.below i p t l) (λ g. subst (λ (y : ℕ). k.holds y p ≡ true) (sym now) (w.kept (fact_of i) p t l g)))
+        (sane.below i p t l) (λ g. subst (λ (y : ℕ). k.holds y p ≡ true) (sym now) (w.deed.grows.kept (fact_of i) p t l g)))
 
     pub worked_busy : Busy v a.board → Busy v b.board
     worked_busy old x l q h = elim (which (a.board.state x)) [
       | inl s ↦ idle≢queued (a.board.state x) s (sym (w.leaves x l (λ e t. t.3 (h t.0 t.1))).0 ∙ q)
-      | inr (inl s) ↦ old x l s (rested x (λ e. held≢queued (a.board.state x) (ap a.board.state e ∙ w.held) s) h)
+      | inr (inl s) ↦ old x l s (rested x (λ e. held≢queued (a.board.state x) (ap a.board.state e ∙ w.deed.held) s) h)
       | inr (inr s) ↦ held≢queued (a.board.state x) s (sym (w.leaves x l (λ e t. t.3 (h t.0 t.1))).0 ∙ q)
     ]

@@ -150,7 +150,7 @@ module _ (k : Kind) (lawful : Lawful k) (v : Vocabulary) (wf : WellFormed v) whe
       let one : (es ++ worked c j ∷ []) ++ fs ≡ es ++ worked c j ∷ fs = append_assoc es (worked c j ∷ []) fs in
       record {
         kept = subst (λ (l : List Event). Kept v k l z) (sym one) i.kept;
-        counted = let p = i.counted in let q = w.counted in omega arith;
+        counted = let p = i.counted in let q = w.deed.counted in omega arith;
         within = let p = i.within in omega arith;
         none_granted = let p = granted_of es (worked c j ∷ []) in let q = i.none_granted in omega arith;
         none_back = let p = given_back_of es (worked c j ∷ []) in let q = i.none_back in omega arith;

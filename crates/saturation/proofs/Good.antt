@@ -118,10 +118,10 @@ module _ (v : Vocabulary) (wf : WellFormed v) (k : Kind) (lawful : Lawful k) whe
     b = n.board
 
     here : Within v (fact_of j)
-    here = at_within v w.first.at
+    here = at_within v w.deed.first.at
 
     done_after : (i : Job) → Within v (fact_of i) → ((i ≡ j) × (b.done i ≡ a.found (fact_of i))) ⊎ ((i ≡ j → ⊥) × (b.done i ≡ a.done i))
-    done_after i t = elim (same_job i j) [ inl e ↦ inl (e, subst (λ (x : Job). b.done x ≡ a.found (fact_of x)) (sym e) w.marked) | inr d ↦ inr (d, w.unmarked i t d) ]
+    done_after i t = elim (same_job i j) [ inl e ↦ inl (e, subst (λ (x : Job). b.done x ≡ a.found (fact_of x)) (sym e) w.deed.marked) | inr d ↦ inr (d, w.deed.unmarked i t d) ]
 
     done_found : (i : Job) (p : ℕ) → Within v (fact_of i) → p < k.points → k.holds (b.done i) p ≡ true → k.holds (a.found (fact_of i)) p ≡ true
     done_found i p t l h = elim (done_after i t) [ inl e ↦ rw e.1 at h | inr e ↦ g.sane.below i p t l (rw e.1 at h) ]
@@ -134,21 +134,21 @@ module _ (v : Vocabulary) (wf : WellFormed v) (k : Kind) (lawful : Lawful k) whe
       sane = record {
         found = w.codes;
         done = λ i t. elim (done_after i t) [ inl e ↦ rw e.1 (g.sane.found (fact_of i) t) | inr e ↦ rw e.1 (g.sane.done i t) ];
-        below = λ i p t l h. w.kept (fact_of i) p t l (done_found i p t l h);
+        below = λ i p t l h. w.deed.grows.kept (fact_of i) p t l (done_found i p t l h);
       };
-      sound = λ f p t l h. elim (w.only f p t l h) [
+      sound = λ f p t l h. elim (w.deed.grows.only f p t l h) [
         | inl q ↦ g.sound f p t l q
         | inr d ↦ by d.1 (λ i o. let q = premises_within v wf d.1 t j d.2 here i o in g.sound (fact_of i) p q l (done_found i p q l (d.3 i o)))
       ];
       complete = λ js f p l r h. let t = conclusion_within v wf r (λ i o. (h i o).0) in elim (member j js) [
-        | inl o ↦ w.drew f p t l (js, r, o, (λ i q. (h i q).1))
-        | inr d ↦ w.kept f p t l (g.complete js f p l r (λ i o. let q = h i o in (q.0, rw (w.unmarked i q.0 (λ e. d (Memᴰ.cast (sym e) o))) at q.1)))
+        | inl o ↦ w.deed.grows.drew f p t l (js, r, o, (λ i q. (h i q).1))
+        | inr d ↦ w.deed.grows.kept f p t l (g.complete js f p l r (λ i o. let q = h i o in (q.0, rw (w.deed.unmarked i q.0 (λ e. d (Memᴰ.cast (sym e) o))) at q.1)))
       ];
     }
 
     new_point : Gap k.points (k.holds (a.done j)) (k.holds (a.found (fact_of j)))
     new_point = elim (gap k.points (k.holds (a.done j)) (k.holds (a.found (fact_of j))) (λ p l. g.sane.below j p here l)) [
-      | inl e ↦ absurd (w.first.waits (lawful.same (a.done j) (a.found (fact_of j)) (g.sane.done j here) (g.sane.found (fact_of j) here) e))
+      | inl e ↦ absurd (w.deed.first.waits (lawful.same (a.done j) (a.found (fact_of j)) (g.sane.done j here) (g.sane.found (fact_of j) here) e))
       | inr t ↦ t
     ]
 
@@ -171,7 +171,7 @@ module _ (v : Vocabulary) (wf : WellFormed v) (k : Kind) (lawful : Lawful k) whe
 
         each : (u : Job × ℕ) → Memᴰ u ((j, p) ∷ us) → Done v k b u
         each u o = elim (Memᴰ.cases_cons o) [
-          | inl e ↦ subst (Done v k b) (sym e) ((c, w.first.at), new_point.1, rw w.marked new_point.3)
+          | inl e ↦ subst (Done v k b) (sym e) ((c, w.deed.first.at), new_point.1, rw w.deed.marked new_point.3)
           | inr q ↦ let d = t.each u q in (d.0, d.1, done_kept u.0 u.1 (at_within v d.0.1) d.1 d.2)
         ]
 
@@ -185,4 +185,4 @@ module _ (v : Vocabulary) (wf : WellFormed v) (k : Kind) (lawful : Lawful k) whe
         count =
             let few = few_pairs v k us t.distinct (λ u o. let d = t.each u o in (at_within v d.0.1, d.1)) in
             let most = pairs_small v k wf lawful in
-            let x = w.counted in let y = t.count in omega arith
+            let x = w.deed.counted in let y = t.count in omega arith

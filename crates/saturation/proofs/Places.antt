@@ -204,7 +204,7 @@ module _ (v : Vocabulary) (wf : WellFormed v) (k : Kind) where
       queued_in_pile = piled;
       only_queued = λ x h. elim (cases_lt x size) [
         | inl l ↦ (l, in_line x l h (is_queued (b.board.state x)))
-        | inr l ↦ let o = old.only_queued x (sym (w.beyond x l) ∙ h) in let m = o.0 in absurd (omega arith)
+        | inr l ↦ let o = old.only_queued x (sym (w.deed.beyond x l) ∙ h) in let m = o.0 in absurd (omega arith)
       ];
     }
       where
@@ -221,8 +221,8 @@ module _ (v : Vocabulary) (wf : WellFormed v) (k : Kind) where
         seen i x at h (inl s) = elim (cases_eq (a.board.found (fact_of i)) (b.board.found (fact_of i))) [
           | inr d ↦ inl (w.queues x s (i, at, d, h)).0
           | inl e ↦ elim (same_job i j) [
-            | inl q ↦ absurd (h (subst (λ (y : Job). b.board.done y ≡ a.board.found (fact_of y)) (sym q) w.marked ∙ e))
-            | inr q ↦ inr (inr (unchecked a.board es x s (old.nothing_lost i x at (λ z. h (w.unmarked i (at_within v at) q ∙ z ∙ e)))))
+            | inl q ↦ absurd (h (subst (λ (y : Job). b.board.done y ≡ a.board.found (fact_of y)) (sym q) w.deed.marked ∙ e))
+            | inr q ↦ inr (inr (unchecked a.board es x s (old.nothing_lost i x at (λ z. h (w.deed.unmarked i (at_within v at) q ∙ z ∙ e)))))
           ]
         ]
 

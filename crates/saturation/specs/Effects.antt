@@ -43,22 +43,30 @@ pub record Took (n m c : ℕ) (a b : Moment) : Type 0 where
   pub rest : (x : ℕ) → (x ≢ c) → b.pile x ≡ a.pile x
   pub grades : SameGrades n m a.board b.board
 
--- step: the held concept's first waiting job j is done; found grades grow by exactly what rules with j among their premises draw; the idle
--- concepts at which a job of a raised fact waits are queued; the count rises by one, up to the greatest number of 64 bits
-pub record Worked (v : Vocabulary) (k : Kind) (c : ℕ) (j : Job) (a b : Moment) : Type 0 where
+-- found grades grow by exactly the facts and points of P
+pub record Grows (v : Vocabulary) (k : Kind) (P : Fact → ℕ → Type 0) (a b : Board) : Type 0 where
+  pub kept : (f : Fact) (p : ℕ) → Within v f → p < k.points → k.holds (a.found f) p ≡ true → k.holds (b.found f) p ≡ true
+  pub drew : (f : Fact) (p : ℕ) → Within v f → p < k.points → P f p → k.holds (b.found f) p ≡ true
+  pub only : (f : Fact) (p : ℕ) → Within v f → p < k.points → k.holds (b.found f) p ≡ true → (k.holds (a.found f) p ≡ true) ⊎ P f p
+
+-- the held concept's first waiting job j is done; found grades grow by exactly what rules with j among their premises draw; the count rises by
+-- one, up to the greatest number of 64 bits; and no number beyond the concepts comes into the pile or leaves it
+pub record JobDone (v : Vocabulary) (k : Kind) (c : ℕ) (j : Job) (a b : Moment) : Type 0 where
   pub within : c < length v.concepts
   pub held : a.board.state c ≡ Held
   pub first : First v a.board c j
   pub marked : b.board.done j ≡ a.board.found (fact_of j)
   pub unmarked : (i : Job) → Within v (fact_of i) → (i ≢ j) → b.board.done i ≡ a.board.done i
-  pub kept : (f : Fact) (p : ℕ) → Within v f → p < k.points → k.holds (a.board.found f) p ≡ true → k.holds (b.board.found f) p ≡ true
-  pub drew : (f : Fact) (p : ℕ) → Within v f → p < k.points → Draws v k b.board.done j f p → k.holds (b.board.found f) p ≡ true
-  pub only : (f : Fact) (p : ℕ) → Within v f → p < k.points → k.holds (b.board.found f) p ≡ true → (k.holds (a.board.found f) p ≡ true) ⊎ Draws v k b.board.done j f p
+  pub grows : Grows v k (Draws v k b.board.done j) a.board b.board
+  pub counted : b.board.steps ≡ min (a.board.steps + 1) (2 ^ 64 - 1)
+  pub beyond : (x : ℕ) → length v.concepts ≤ x → b.pile x ≡ a.pile x
+
+-- step: the job is done, and the idle concepts at which a job of a raised fact waits are queued
+pub record Worked (v : Vocabulary) (k : Kind) (c : ℕ) (j : Job) (a b : Moment) : Type 0 where
+  pub deed : JobDone v k c j a b
   pub codes : (f : Fact) → Within v f → b.board.found f < k.codes
   pub queues : (x : ℕ) → a.board.state x ≡ Idle → Stirred v a.board b.board x → InLine x b
   pub leaves : (x : ℕ) → x < length v.concepts → (a.board.state x ≡ Idle → Stirred v a.board b.board x → ⊥) → Stays x a b
-  pub beyond : (x : ℕ) → length v.concepts ≤ x → b.pile x ≡ a.pile x
-  pub counted : b.board.steps ≡ min (a.board.steps + 1) (2 ^ 64 - 1)
 
 -- lowering: the held concept is idle
 pub record Lowered (n m c : ℕ) (a b : Moment) : Type 0 where

@@ -1,5 +1,5 @@
 -- What a board that workers shared answers.
-use Rattle.std.specs.Prelude.{◌≡◌, ℕ, ◌<◌, List, length, Ok, Err, Result}
+use Rattle.std.specs.Prelude.{ℕ, ◌<◌, List, length, Ok, Err, Result}
 use Rattle.rejections.specs.declared.Rejection.{Rejection}
 use Rattle.rejections.specs.declared.Rejection.TheVariants.{NoSuchConcept}
 use Rattle.grades.specs.Kinds.{Kind}

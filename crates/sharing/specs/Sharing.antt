@@ -2,8 +2,7 @@
 use Rattle.std.specs.Prelude.{◌≡◌, ℕ, ◌<◌, false, List, [], ◌∷◌, length, ◌≢◌}
 use Rattle.grades.specs.Kinds.{Kind}
 use Rattle.piles.specs.Sets.{Numbers}
-use Rattle.terms.specs.Vocabularies.{Vocabulary, Named}
-use Rattle.reasoning.specs.declared.Fact.TheVariants.{Under as under}
+use Rattle.terms.specs.Vocabularies.{Vocabulary}
 use Rattle.saturation.specs.declared.State.TheVariants.{Held}
 use Rattle.saturation.specs.Boards.{Sane}
 use Rattle.saturation.specs.Histories.{Event, lowered, rechecked, Leads, History, granted, given_back, unrechecked}

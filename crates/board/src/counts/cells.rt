@@ -1,5 +1,5 @@
 //! How many words the counts ask for, and where each grade lies.
-ghost use Rattle.std.specs.Prelude.{◌≡◌, ◌+◌, ◌*◌, ◌<◌, ◌≤◌, true, false, length};
+ghost use Rattle.std.specs.Prelude.{◌≡◌, ◌+◌, ◌*◌, ◌<◌, ◌≤◌, true, false};
 ghost use Rattle.terms.specs.Views.{terms_of};
 ghost use Rattle.reasoning.specs.Derivations.{Fits, fact_of};
 ghost use Rattle.board.specs.Layout.{place, words_needed};

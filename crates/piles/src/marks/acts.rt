@@ -30,6 +30,7 @@ impl<'a> Marks<'a> {
 
 impl<'a> Pile for Marks<'a> {
     ghost numbers = { in_marks };
+
     ghost front = { smallest_in };
 
     // Said for each pile, here and in the ring: a type around the list would have to be forwarded to just so.

@@ -29,6 +29,7 @@ impl<'a> Ring<'a> {
 
 impl<'a> Pile for Ring<'a> {
     ghost numbers = { in_ring };
+
     ghost front = { longest_in };
 
     fn size(&self) -> usize {

@@ -1,4 +1,3 @@
-use Rattle.std.proofs.Common.{length}
 use Rattle.terms.specs.Views.{terms_of}
 use Rattle.sharing.specs.Asking.{asked, rejected}
 use Rattle.sharing.proofs.Asking.{answers}
