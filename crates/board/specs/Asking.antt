@@ -53,3 +53,7 @@ asked_of test k a = test (terms_of a.board.terms.now) k (read_of a.board.reader)
 -- the test of what is asked of them
 abbrev pub wanted : {X : Type 0} → Kind → Asked X → ℕ → Bool
 wanted k a = asked_of (wanted_test a.question a.board.reader.counts.concepts) k a
+
+-- the concepts that belong to the answer, ascending
+abbrev pub answer_of : {X : Type 0} → Kind → Asked X → List ℕ
+answer_of k a = picked (wanted k a) a.board.reader.counts.concepts

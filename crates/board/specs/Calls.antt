@@ -6,11 +6,10 @@ use Rattle.grades.specs.Kinds.{Kind}
 use Rattle.piles.specs.Sets.{Numbers}
 use Rattle.terms.specs.Vocabularies.{Vocabulary}
 use Rattle.reasoning.specs.declared.Job.{Job}
-use Rattle.saturation.specs.declared.State.TheVariants.{Queued}
 use Rattle.saturation.specs.Boards.{Sane}
 use Rattle.saturation.specs.Effects.{Made, Took, Worked, Lowered, Rechecked}
 use Rattle.saturation.specs.Histories.{Event}
-use Rattle.saturation.specs.Runs.{Runs}
+use Rattle.saturation.specs.Runs.{Unqueued, Runs}
 use Rattle.board.specs.Stages.{AnyBoard, OpenBoard}
 use Rattle.board.specs.Counts.{SameCounts}
 use Rattle.board.specs.declared.board.running.Ran.{Ran}
@@ -50,7 +49,7 @@ Taken numbers a p b q (Err e) =
 -- the number that a take tries is the one that the pile draws: it is leased, or it is not queued
 abbrev pub Tried : {X : Type 0} → Option ℕ → OpenBoard X → Result Lease Rejection → Type 0
 Tried front a (Ok lease) = front ≡ Some lease.concept
-Tried front a (Err e) = e ≡ NotQueued → (x : ℕ) × (front ≡ Some x) × (x < a.counts.concepts → (content_of a).state x ≢ Queued)
+Tried front a (Err e) = e ≡ NotQueued → (x : ℕ) × (front ≡ Some x) × Unqueued a.counts.concepts (content_of a) x
 
 -- a step answers the job that it did; a rejected one leaves everything
 abbrev pub Stepped : {X Y : Type 0} → Vocabulary → Kind → (Y → Numbers) → Lease → OpenBoard X → Y → OpenBoard X → Y → Result Job Rejection → Type 0

@@ -8,11 +8,11 @@ use Rattle.reasoning.specs.Derivations.{Within}
 use Rattle.saturation.specs.declared.State.TheVariants.{Idle}
 use Rattle.saturation.specs.Boards.{Moment, InLine, Stays}
 use Rattle.saturation.specs.Effects.{JobDone}
-use Rattle.board.specs.Raises.{Touched}
+use Rattle.board.specs.Raises.{Touched, NewCoded, Queues}
 
 -- as a step is stated, but that a grade may be no code where it is as before, and that a job of a raised fact need not wait
 pub record Did (v : Vocabulary) (k : Kind) (c : ℕ) (j : Job) (a b : Moment) : Type 0 where
   pub deed : JobDone v k c j a b
-  pub codes : (f : Fact) → Within v f → (b.board.found f ≡ a.board.found f) ⊎ (b.board.found f < k.codes)
-  pub queues : (x : ℕ) → a.board.state x ≡ Idle → Touched v a.board b.board x → InLine x b
+  pub codes : NewCoded v k a.board b.board
+  pub queues : Queues v a b
   pub leaves : (x : ℕ) → x < length v.concepts → (a.board.state x ≡ Idle → Touched v a.board b.board x → ⊥) → Stays x a b

@@ -1,9 +1,9 @@
 -- What a link job and an implication job draw together, by the number that the other premise goes by.
-use Rattle.std.specs.Prelude.{◌≡◌, ℕ, ◌<◌, true, ◌⊎◌, length, slice_index_or}
+use Rattle.std.specs.Prelude.{◌≡◌, ℕ, ◌<◌, true, ◌⊎◌, length}
 use Rattle.grades.specs.Kinds.{Kind}
 use Rattle.terms.specs.declared.records.Concept.{Concept}
 use Rattle.terms.specs.declared.records.Concept.TheVariants.{Atomic, Top, Conjunction, Restriction}
-use Rattle.terms.specs.Vocabularies.{Vocabulary}
+use Rattle.terms.specs.Vocabularies.{concept, Vocabulary}
 use Rattle.reasoning.specs.declared.Fact.{Fact}
 use Rattle.reasoning.specs.declared.Fact.TheVariants.{Under as under, Implies as implies}
 use Rattle.reasoning.specs.declared.Job.{Job}
@@ -15,13 +15,20 @@ use Rattle.board.specs.declared.board.joins.Head.TheVariants.{Direct, Through}
 use Rattle.board.specs.declared.board.joins.Join.{Join}
 use Rattle.board.specs.declared.board.joins.Link.{Link}
 use Rattle.board.specs.declared.board.joins.Implication.{Implication}
+use Rattle.board.specs.declared.reader.finding.Line.{Line}
+use Rattle.board.specs.declared.reader.finding.Line.TheVariants as line
 use Rattle.board.specs.Raises.{Gains}
+use Rattle.board.specs.Searches.{job_of}
 use Rattle.board.specs.OwnDraws.{AnyBelow, ByOwn}
+
+-- the line of the jobs that can be the other premise
+abbrev pub line_of : Partners → Line
+line_of (Implications a s c) = line.Implications s c
+line_of (Links x e) = line.Links x
 
 -- the job of the other premise that goes by the number i
 abbrev pub partner : Partners → ℕ → Job
-partner (Implications a s c) i = imply s c i
-partner (Links x e) i = link i x
+partner ps i = job_of (line_of ps) i
 
 -- what it leads to
 abbrev pub conclusion : Partners → Head → ℕ → Fact
@@ -69,7 +76,7 @@ ByFiller v k done m x (Restriction r b) f p = (b ≡ m.left) × ByJoin v k done 
 
 -- by the implication, and its partners by any concept
 abbrev pub ByImplication : Vocabulary → Kind → (Job → ℕ) → Implication → Fact → ℕ → Type 0
-ByImplication v k done m f p = AnyBelow (length v.concepts) (λ x. ByFiller v k done m x (slice_index_or v.concepts x Atomic)) f p
+ByImplication v k done m f p = AnyBelow (length v.concepts) (λ x. ByFiller v k done m x (concept v x)) f p
 
 -- by the link of a under the concept that is stated
 abbrev pub ByLinked : Vocabulary → Kind → (Job → ℕ) → ℕ → ℕ → Concept → Fact → ℕ → Type 0
@@ -81,5 +88,5 @@ ByLinked v k done a g (Restriction r c) f p = ByLink v k done (record { left = a
 -- by a job, at the points of g
 abbrev pub ByJob : Vocabulary → Kind → (Job → ℕ) → Job → ℕ → Fact → ℕ → Type 0
 ByJob v k done (own c d) g f p = ByOwn v k done (record { left = c; right = d; grade = g }) f p
-ByJob v k done (link a x) g f p = ByLinked v k done a g (slice_index_or v.concepts x Atomic) f p
+ByJob v k done (link a x) g f p = ByLinked v k done a g (concept v x) f p
 ByJob v k done (imply s c e) g f p = ByImplication v k done (record { role = s; left = c; right = e; grade = g }) f p

@@ -5,7 +5,7 @@ use Rattle.terms.specs.declared.records.Inclusion.{Inclusion}
 use Rattle.terms.specs.declared.records.Concept.{Concept}
 use Rattle.terms.specs.declared.records.Concept.TheVariants.{Atomic, Top, Conjunction, Restriction}
 use Rattle.terms.specs.Rule.{blank}
-use Rattle.terms.specs.Vocabularies.{Vocabulary}
+use Rattle.terms.specs.Vocabularies.{concept, Vocabulary}
 use Rattle.reasoning.specs.declared.Fact.{Fact}
 use Rattle.reasoning.specs.declared.Fact.TheVariants.{Under as under, Implies as implies}
 use Rattle.reasoning.specs.declared.Job.{Job}
@@ -38,7 +38,7 @@ ByShape k done o x (Restriction s d) f p = (d ≡ o.right) × Gains k (implies s
 
 -- by the concept with the number x
 abbrev pub ByConcept : Vocabulary → Kind → (Job → ℕ) → Known → ℕ → Fact → ℕ → Type 0
-ByConcept v k done o x f p = ByShape k done o x (slice_index_or v.concepts x Atomic) f p
+ByConcept v k done o x f p = ByShape k done o x (concept v x) f p
 
 -- by what the right concept is
 abbrev pub ByPart : Kind → Known → Concept → Fact → ℕ → Type 0
@@ -49,7 +49,7 @@ ByPart k o (Restriction s d) f p = Gains k (under d d) o.grade f p
 
 -- by what the right concept is made of
 abbrev pub ByParts : Vocabulary → Kind → Known → Fact → ℕ → Type 0
-ByParts v k o f p = ByPart k o (slice_index_or v.concepts o.right Atomic) f p
+ByParts v k o f p = ByPart k o (concept v o.right) f p
 
 -- by any of these
 abbrev pub ByOwn : Vocabulary → Kind → (Job → ℕ) → Known → Fact → ℕ → Type 0

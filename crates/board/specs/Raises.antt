@@ -7,7 +7,7 @@ use Rattle.reasoning.specs.declared.Fact.{Fact}
 use Rattle.reasoning.specs.declared.Job.{Job}
 use Rattle.reasoning.specs.Derivations.{Within, JobAt, fact_of}
 use Rattle.saturation.specs.declared.State.TheVariants.{Idle}
-use Rattle.saturation.specs.Boards.{Board, Moment, InLine, Stays}
+use Rattle.saturation.specs.Boards.{Board, Moment, InLine, Stays, Changed}
 use Rattle.saturation.specs.Effects.{SameGrades, Grows}
 use Rattle.board.specs.Stages.{OpenBoard}
 use Rattle.board.specs.Counts.{SameCounts}
@@ -17,19 +17,27 @@ use Rattle.board.specs.Moves.{Wakes}
 
 -- at x stands a job of a fact whose found grade changed
 abbrev pub Touched : Vocabulary → Board → Board → ℕ → Type 0
-Touched v a b x = (j : Job) × JobAt v j x × (a.found (fact_of j) ≢ b.found (fact_of j))
+Touched v a b x = (j : Job) × JobAt v j x × Changed a b j
 
 -- at x stands a job of the fact
 abbrev pub Works : Vocabulary → Fact → ℕ → Type 0
 Works v f x = (j : Job) × JobAt v j x × (fact_of j ≡ f)
+
+-- a found grade that is another than before is a code
+abbrev pub NewCoded : Vocabulary → Kind → Board → Board → Type 0
+NewCoded v k a b = (f : Fact) → Within v f → (b.found f ≡ a.found f) ⊎ (b.found f < k.codes)
+
+-- idle concepts with a job of a changed fact are queued
+abbrev pub Queues : Vocabulary → Moment → Moment → Type 0
+Queues v a b = (x : ℕ) → a.board.state x ≡ Idle → Touched v a.board b.board x → InLine x b
 
 -- found grades grow by exactly the facts and points of P, and idle concepts with a job of a changed fact are queued
 pub record Raises (v : Vocabulary) (k : Kind) (P : Fact → ℕ → Type 0) (a b : Moment) : Type 0 where
   pub done : (j : Job) → Within v (fact_of j) → b.board.done j ≡ a.board.done j
   pub steps : b.board.steps ≡ a.board.steps
   pub grows : Grows v k P a.board b.board
-  pub codes : (f : Fact) → Within v f → (b.board.found f ≡ a.board.found f) ⊎ (b.board.found f < k.codes)
-  pub queues : (x : ℕ) → a.board.state x ≡ Idle → Touched v a.board b.board x → InLine x b
+  pub codes : NewCoded v k a.board b.board
+  pub queues : Queues v a b
   pub states : (x : ℕ) → x < length v.concepts → Stays x a b ⊎ (Wakes x a b × Touched v a.board b.board x)
   pub beyond : (x : ℕ) → length v.concepts ≤ x → b.pile x ≡ a.pile x
 

@@ -6,7 +6,7 @@ use crate::counts::Counts;
 
 pub(crate) mod asking;
 pub(crate) mod cells;
-mod finding;
+pub(crate) mod finding;
 pub(crate) mod reading;
 
 /// The words of a board, lent for reading, and its counts.

@@ -42,7 +42,7 @@ boards_answer k lawful v wf es m h quiet =
           one_grade v k lawful (record { is_code = promise.sane.found (under a d) (i.0, l); truthful = promise.true_in_models quiet a d i l }) g,
       λ n single s.
           let t = promise.exact_steps single quiet in
-          let few : length t.0 ≤ length s.0 = no_more t.0 s.0 t.1 (λ u w. s.3 u (t.2 u w)) in
-          let many : length s.0 ≤ length t.0 = no_more s.0 t.0 s.1 (λ u w. t.3 u (s.2 u w)) in
-          omega (arith, t.4, s.4),
+          let few : length t.some.pairs ≤ length s.some.pairs = no_more t.some.pairs s.some.pairs t.some.distinct (λ u w. s.every u (t.some.each u w)) in
+          let many : length s.some.pairs ≤ length t.some.pairs = no_more s.some.pairs t.some.pairs s.some.distinct (λ u w. t.every u (s.some.each u w)) in
+          omega (arith, t.some.count, s.some.count),
     )

@@ -10,7 +10,7 @@ use Rattle.rejections.specs.declared.Rejection.{Rejection}
 use Rattle.rejections.specs.declared.Rejection.TheVariants.{NoSuchConcept}
 use Rattle.lemmas.specs.Tests.{every, if_then}
 use Rattle.lemmas.proofs.Tests.{every_at, if_at}
-use Rattle.grades.specs.Kinds.{Kind, Lawful}
+use Rattle.grades.specs.Kinds.{Kind, Lawful, on_at}
 use Rattle.grades.specs.Laws.{plain_lawful, releases_lawful, views_lawful}
 use Rattle.terms.specs.declared.records.Inclusion.{Inclusion}
 use Rattle.terms.specs.Contents.{Contents, vocabulary_of}
@@ -37,10 +37,6 @@ use Rattle.cases.proofs.Tests.{all_of, all_at, agree, agree_true}
 use Rattle.cases.proofs.Formed.{formed, formed_well}
 use Rattle.cases.proofs.Answers.{ascending, ascending_at, lists, lists_true}
 use Rattle.cases.proofs.Steps.{pairs, counts, steps_true}
-
--- which codes hold at a point
-abbrev at : Kind → ℕ → ℕ → Bool
-at k p code = k.holds code p
 
 -- ---- the tests, over what was found at each point
 
@@ -78,11 +74,11 @@ enough = 1000
 
 -- the facts of each point
 abbrev tables : Vocabulary → Kind → List (List Fact)
-tables v k = map (λ p. rounds v (at k p) enough []) (range_with_len 0 k.points)
+tables v k = map (λ p. rounds v (on_at k p) enough []) (range_with_len 0 k.points)
 
 -- the tables are closed, and every expectation is met
 abbrev tables_test : Vocabulary → Kind → List Expectation → List (List Fact) → Bool
-tables_test v k es ts = every k.points (λ p. closed v (at k p) (get_or ts p [])) && all_of (met_test v k (λ p. get_or ts p [])) es
+tables_test v k es ts = every k.points (λ p. closed v (on_at k p) (get_or ts p [])) && all_of (met_test v k (λ p. get_or ts p [])) es
 
 abbrev codes_fit : Kind → List Inclusion → Bool
 codes_fit k is = all_of (λ (i : Inclusion). ltb i.code k.codes) is
@@ -112,7 +108,7 @@ unknown_true v a n b q d r (unsettled (job_waits s h)) = absurd (h q)
 unknown_true v a n b q d r (no_concept s h) = refl
 
 module _ (v : Vocabulary) (wf : WellFormed v) (k : Kind) (lawful : Lawful k) (facts : ℕ → List Fact)
-    (derives : (p : ℕ) → p < k.points → (f : Fact) → Decides (has (facts p) f) (Derivable v (at k p) f))
+    (derives : (p : ℕ) → p < k.points → (f : Fact) → Decides (has (facts p) f) (Derivable v (on_at k p) f))
     (tells : (p : ℕ) → p < k.points → (a d : ℕ) → Named v a → d < length v.concepts → Decides (has (facts p) (under a d)) (TrulyUnder v k p a d)) where
   grade_true : (a d code : ℕ) → Named v a → d < length v.concepts → grade_test k facts a d code ≡ true → Grade v k a d code
   grade_true a d code i l h =
@@ -216,8 +212,8 @@ module _ (v : Vocabulary) (wf : WellFormed v) (k : Kind) (lawful : Lawful k) (fa
   met_true (unknown a) h = unknown_true v a ((Decides-not _ (named_decides v a)).0 h)
 
 -- the table of a point
-table_at : (v : Vocabulary) (k : Kind) (p : ℕ) → p < k.points → get_or (tables v k) p [] ≡ rounds v (at k p) enough []
-table_at v k p l = get_or-map-range_with_len (λ p. rounds v (at k p) enough []) 0 k.points p p [] l (omega arith)
+table_at : (v : Vocabulary) (k : Kind) (p : ℕ) → p < k.points → get_or (tables v k) p [] ≡ rounds v (on_at k p) enough []
+table_at v k p l = get_or-map-range_with_len (λ p. rounds v (on_at k p) enough []) 0 k.points p p [] l (omega arith)
 
 tables_true : (v : Vocabulary) → WellFormed v → (k : Kind) → Lawful k → (es : List Expectation) → tables_test v k es (tables v k) ≡ true → (e : Expectation) → Memᴰ e es → Met v k e
 tables_true v wf k lawful es h e m = met_true v wf k lawful facts derives tells e (all_at (met_test v k facts) es t.1 e m)
@@ -225,20 +221,20 @@ tables_true v wf k lawful es h e m = met_true v wf k lawful facts derives tells 
     facts : ℕ → List Fact
     facts p = get_or (tables v k) p []
 
-    t : (every k.points (λ p. closed v (at k p) (facts p)) ≡ true) × (all_of (met_test v k facts) es ≡ true)
-    t = and_parts (every k.points (λ p. closed v (at k p) (facts p))) (all_of (met_test v k facts) es) h
+    t : (every k.points (λ p. closed v (on_at k p) (facts p)) ≡ true) × (all_of (met_test v k facts) es ≡ true)
+    t = and_parts (every k.points (λ p. closed v (on_at k p) (facts p))) (all_of (met_test v k facts) es) h
 
-    full : (p : ℕ) → p < k.points → closed v (at k p) (rounds v (at k p) enough []) ≡ true
-    full p l = subst (λ (fs : List Fact). closed v (at k p) fs ≡ true) (table_at v k p l) (every_at k.points (λ p. closed v (at k p) (facts p)) t.0 p l)
+    full : (p : ℕ) → p < k.points → closed v (on_at k p) (rounds v (on_at k p) enough []) ≡ true
+    full p l = subst (λ (fs : List Fact). closed v (on_at k p) fs ≡ true) (table_at v k p l) (every_at k.points (λ p. closed v (on_at k p) (facts p)) t.0 p l)
 
-    derives : (p : ℕ) → p < k.points → (f : Fact) → Decides (has (facts p) f) (Derivable v (at k p) f)
+    derives : (p : ℕ) → p < k.points → (f : Fact) → Decides (has (facts p) f) (Derivable v (on_at k p) f)
     derives p l f =
-        let w = rounds_derive v wf (at k p) enough in
-        subst (λ (fs : List Fact). Decides (has fs f) (Derivable v (at k p) f)) (sym (table_at v k p l)) (w.0 f, w.1 (full p l) f)
+        let w = rounds_derive v wf (on_at k p) enough in
+        subst (λ (fs : List Fact). Decides (has fs f) (Derivable v (on_at k p) f)) (sym (table_at v k p l)) (w.0 f, w.1 (full p l) f)
 
     tells : (p : ℕ) → p < k.points → (a d : ℕ) → Named v a → d < length v.concepts → Decides (has (facts p) (under a d)) (TrulyUnder v k p a d)
     tells p l a d i j =
-        subst (λ (fs : List Fact). Decides (has fs (under a d)) (TrulyUnder v k p a d)) (sym (table_at v k p l)) (rounds_tell v wf (at k p) enough (full p l) a d i j)
+        subst (λ (fs : List Fact). Decides (has fs (under a d)) (TrulyUnder v k p a d)) (sym (table_at v k p l)) (rounds_tell v wf (on_at k p) enough (full p l) a d i j)
 
 kind_lawful : (n : KindName) → Lawful (kind_of n)
 kind_lawful Plain = plain_lawful

@@ -6,14 +6,14 @@ use Rattle.std.proofs.lemmas.List.{get_or_past}
 use Rattle.terms.specs.declared.records.Concept.{Concept}
 use Rattle.terms.specs.declared.records.Concept.TheVariants.{Atomic, Top, Conjunction, Restriction}
 use Rattle.terms.specs.declared.records.Inclusion.{Inclusion}
-use Rattle.terms.specs.Vocabularies.{Vocabulary, Is, WellFormed}
+use Rattle.terms.specs.Vocabularies.{concept, Vocabulary, Is, WellFormed}
 use Rattle.reasoning.specs.declared.Fact.{Fact}
 use Rattle.reasoning.specs.declared.Fact.TheVariants.{Under as under, Implies as implies}
 use Rattle.reasoning.specs.declared.Job.{Job}
 use Rattle.reasoning.specs.declared.Job.TheVariants.{Own as own, Link as link, Imply as imply}
 use Rattle.reasoning.specs.Derivations.{fact_of, Rule, Derivable, by, Closed}
 use Rattle.reasoning.proofs.Complete.{exact, least}
-use Rattle.cases.specs.Rounds.{numbers, only, has, concept, start_of, parts_of, wholes_of, joined, links_of, inclusions_from, wholes_from, drawn, starts, conclusions, closed, news, unless_none, rounds, ConclusionsDrawn, RoundsDerive, RoundsTell}
+use Rattle.cases.specs.Rounds.{numbers, only, has, start_of, parts_of, wholes_of, joined, links_of, inclusions_from, wholes_from, drawn, starts, conclusions, closed, news, unless_none, rounds, ConclusionsDrawn, RoundsDerive, RoundsTell}
 use Rattle.cases.proofs.Lists.{numbers_of, numbers_at, each_of, each_at, only_of, only_at, has_of, has_at, all_in_lem, news_at}
 
 -- what is made of other concepts is there

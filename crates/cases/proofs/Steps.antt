@@ -6,7 +6,7 @@ use Rattle.std.proofs.lemmas.Bool.{and_parts, and_from, or_left, or_right, eq-eq
 use Rattle.grades.specs.Kinds.{Kind}
 use Rattle.terms.specs.declared.records.Concept.{Concept}
 use Rattle.terms.specs.declared.records.Concept.TheVariants.{Atomic, Top, Conjunction, Restriction}
-use Rattle.terms.specs.Vocabularies.{Vocabulary, Is, WellFormed}
+use Rattle.terms.specs.Vocabularies.{concept, Vocabulary, Is, WellFormed}
 use Rattle.reasoning.specs.declared.Fact.{Fact}
 use Rattle.reasoning.specs.declared.Fact.TheVariants.{Under as under, Implies as implies}
 use Rattle.reasoning.specs.declared.Job.{Job}
@@ -14,7 +14,7 @@ use Rattle.reasoning.specs.declared.Job.TheVariants.{Own as own, Link as link, I
 use Rattle.reasoning.specs.Derivations.{fact_of, Derivable, JobAt, at_left, at_filler, at_premise}
 use Rattle.reasoning.proofs.Rules.{derivable_within}
 use Rattle.saturation.specs.AnyOrder.{Distinct, Due, AllDue}
-use Rattle.cases.specs.Rounds.{numbers, each, has, concept}
+use Rattle.cases.specs.Rounds.{numbers, each, has}
 use Rattle.cases.proofs.Lists.{numbers_of, numbers_at, each_of, each_at, has_of, has_at}
 use Rattle.cases.proofs.Rounds.{there}
 
@@ -129,4 +129,4 @@ module _ (v : Vocabulary) (wf : WellFormed v) (k : Kind) (facts : ℕ → List F
   steps_true n h =
       let us = pairs v k facts in
       let t = and_parts (eqb n (length us)) (distinct us) h in
-      (us, distinct_at us t.1, pairs_due, due_pairs, eqb-true n (length us) t.0)
+      record { some = record { pairs = us; distinct = distinct_at us t.1; each = pairs_due; count = eqb-true n (length us) t.0 }; every = due_pairs }

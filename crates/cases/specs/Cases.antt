@@ -1,12 +1,13 @@
 -- The worked cases.
-use Rattle.std.specs.Prelude.{◌≡◌, ◌<◌, List, [], ◌∷◌, length, Ok}
+use Rattle.std.specs.Prelude.{◌≡◌, List, [], ◌∷◌, length, Ok}
 use mathlib.Core.List.{Memᴰ}
 use Prim.Native.String.{String}
-use Rattle.terms.specs.declared.records.Inclusion.{Inclusion}
 use Rattle.terms.specs.Contents.{vocabulary_of}
 use Rattle.terms.specs.Vocabularies.{Vocabulary, WellFormed}
+use Rattle.board.specs.Refusals.{Coded}
+use Rattle.listing.specs.Rows.{row}
 use Rattle.cases.specs.Sheets.{reading, stated}
-use Rattle.cases.specs.Expectations.{KindName, Plain, Releases, Views, kind_of, Expectation, row, grade, listing, steps, mates, parents, words, unknown, Met}
+use Rattle.cases.specs.Expectations.{KindName, Plain, Releases, Views, kind_of, Expectation, grade, listing, steps, mates, parents, words, unknown, Met}
 
 -- a kind of grade, a sheet, and what is expected of it
 pub record Case : Type 0 where
@@ -26,7 +27,7 @@ vocabulary_in c = vocabulary_of (stated c.sheet)
 pub record Holds (c : Case) : Type 0 where
   pub read : reading c.sheet ≡ Ok (length c.sheet)
   pub well_formed : WellFormed (vocabulary_in c)
-  pub codes : (i : Inclusion) → Memᴰ i (vocabulary_in c).inclusions → i.code < (kind_of c.kind).codes
+  pub codes : Coded (vocabulary_in c) (kind_of c.kind)
   pub met : (e : Expectation) → Memᴰ e c.expected → Met (vocabulary_in c) (kind_of c.kind) e
 
 -- the cases, one after another

@@ -27,8 +27,8 @@ kind_of Plain = plain
 kind_of Releases = releases
 kind_of Views = views
 
--- the grade of one concept under another; the listing; the steps of a finished board;
--- a concept's mates and its parents at a point; the words that a board needs; a number that no question is answered for
+-- the grade of one concept under another; the listing; the steps of a finished board; a concept's mates and its parents at a point; the words
+-- that a board needs; a number of which `under` says that there is no such concept
 pub data Expectation : Type 0 where
   grade : ℕ → ℕ → ℕ → Expectation
   listing : List Row → Expectation
@@ -37,10 +37,6 @@ pub data Expectation : Type 0 where
   parents : ℕ → ℕ → List ℕ → Expectation
   words : ℕ → Expectation
   unknown : ℕ → Expectation
-
--- the row of two concepts and a code
-abbrev pub row : ℕ → ℕ → ℕ → Row
-row a d g = record { sub = a; sup = d; code = g }
 
 -- what an expectation says of a vocabulary
 abbrev pub Met : Vocabulary → Kind → Expectation → Type 0

@@ -1,9 +1,9 @@
 -- Saturation by rounds: what the rules draw from a list of facts joins the list, round by round, until a round adds nothing.
-use Rattle.std.specs.Prelude.{◌≡◌, ℕ, zero, suc, ◌<◌, Bool, true, false, cond, ◌&&◌, ◌||◌, List, [], ◌∷◌, ◌++◌, length, Decides, ◌==◌, slice_index_or}
+use Rattle.std.specs.Prelude.{◌≡◌, ℕ, zero, suc, ◌<◌, Bool, true, false, cond, ◌&&◌, ◌||◌, List, [], ◌∷◌, ◌++◌, length, Decides, ◌==◌}
 use mathlib.Core.List.{Memᴰ}
 use Rattle.terms.specs.declared.records.Concept.{Concept}
 use Rattle.terms.specs.declared.records.Concept.TheVariants.{Atomic, Top, Conjunction, Restriction}
-use Rattle.terms.specs.Vocabularies.{Vocabulary, Named, WellFormed}
+use Rattle.terms.specs.Vocabularies.{concept, Vocabulary, Named, WellFormed}
 use Rattle.reasoning.specs.declared.Fact.{Fact}
 use Rattle.reasoning.specs.declared.Fact.TheVariants.{Under as under, Implies as implies}
 use Rattle.reasoning.specs.declared.Job.{Job}
@@ -36,10 +36,6 @@ same (implies s a b) (implies t c d) = s == t && (a == c && b == d)
 abbrev pub has : List Fact → Fact → Bool
 has [] f = false
 has (g ∷ gs) f = same f g || has gs f
-
--- the concept with a number
-abbrev pub concept : Vocabulary → ℕ → Concept
-concept v c = slice_index_or v.concepts c Atomic
 
 -- the start fact of a, if a is named
 abbrev pub start_of : ℕ → Concept → List Fact

@@ -1,11 +1,10 @@
 -- Vocabularies as the worked cases give them: sheets, line by line.
 use Rattle.std.specs.Prelude.{ℕ, ◌-◌, List, [], ◌∷◌, ◌++◌, length, replicate, codes, Result}
 use Prim.Native.String.{String}
-use Rattle.terms.specs.Contents.{Contents, nothing}
+use Rattle.terms.specs.Contents.{Contents}
 use Rattle.terms.specs.Counting.{room_for}
-use Rattle.terms.specs.Entries.{with_entries}
 use Rattle.sheet.specs.declared.fault.Fault.{Fault}
-use Rattle.sheet.specs.Sheet.{sheet_of, lines_in, entries_of}
+use Rattle.sheet.specs.Sheet.{sheet_of, contents_in}
 
 -- a line of a sheet: spaces fill it to column 19, and a line feed ends it
 abbrev pub line_text : String → List ℕ
@@ -22,4 +21,4 @@ reading ls = sheet_of (room_for 1024 4096) (text ls)
 
 -- what a sheet states
 abbrev pub stated : List String → Contents
-stated ls = with_entries (entries_of (lines_in (text ls))) nothing
+stated ls = contents_in (text ls)

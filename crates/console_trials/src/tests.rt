@@ -38,9 +38,12 @@ fn check_written(
     Ok(())
 }
 
-/// A sheet of 40 atomic concepts and so many inclusions of the first in itself.
-fn long_sheet(heap: Global, inclusions: usize) -> Result<Vec<u8>, AllocError> {
+/// A sheet of so many roles, 40 atomic concepts, and so many inclusions of the first in itself.
+fn long_sheet(heap: Global, roles: usize, inclusions: usize) -> Result<Vec<u8>, AllocError> {
     let mut text = Vec::new(heap);
+    for _ in 0..roles {
+        push_line(&mut text, b"R", &[])?;
+    }
     for _ in 0..40usize {
         push_line(&mut text, b"A", &[])?;
     }
@@ -67,14 +70,25 @@ fn trouble_is_written(rt: HostRuntime) -> Result<(), Fail> {
     let heap = rt.alloc();
     check_written(&rt, heap, b"", 9, b"")?;
     check_written(&rt, heap, b"A", 9, b"!     1     1     1\n")?;
+    let last = padded(heap, b"A\nS     0     0    64\n")?;
+    check_written(&rt, heap, &last, 9, b"")?;
     let foreign = padded(heap, b"A\nS     0     0    65\n")?;
     check_written(&rt, heap, &foreign, 9, b"!     8     0     0\n")
 }
 
 #[test]
+fn forty_concepts_have_at_most_four_roles(rt: HostRuntime) -> Result<(), Fail> {
+    let heap = rt.alloc();
+    let four = long_sheet(heap, 4, 0)?;
+    check_written(&rt, heap, &four, 4096, b"")?;
+    let five = long_sheet(heap, 5, 0)?;
+    check_written(&rt, heap, &five, 4096, b"!     9     0     0\n")
+}
+
+#[test]
 fn the_longest_text_has_4000_bytes(rt: HostRuntime) -> Result<(), Fail> {
     let heap = rt.alloc();
-    let mut text = long_sheet(heap, 160)?;
+    let mut text = long_sheet(heap, 0, 160)?;
     assert_eq!(rt; text.len(), 4000);
     check_written(&rt, heap, &text, 4096, b"")?;
     text.push(b'A')?;

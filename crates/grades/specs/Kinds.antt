@@ -11,6 +11,10 @@ pub record Kind : Type 0 where
   pub join : ℕ → ℕ → ℕ
   pub meet : ℕ → ℕ → ℕ
 
+-- whether a code holds at the point
+abbrev pub on_at : Kind → ℕ → ℕ → Bool
+on_at k p code = k.holds code p
+
 -- joins and meets of any two numbers are codes, so one that is no code, which holds nothing, counts there as "none"
 pub record Lawful (k : Kind) : Type 0 where
   pub some_point : 1 ≤ k.points

@@ -1,5 +1,5 @@
 -- What a listing says of a vocabulary.
-use Rattle.std.specs.Prelude.{◌≡◌, ◌<◌, ◌⊎◌, List}
+use Rattle.std.specs.Prelude.{◌≡◌, ◌<◌, ◌⊎◌, List, ◌≢◌}
 use Rattle.grades.specs.Kinds.{Kind}
 use Rattle.terms.specs.Vocabularies.{Vocabulary, Named}
 use Rattle.saturation.specs.Answers.{Grade, ListBy}
@@ -9,8 +9,8 @@ use Rattle.listing.specs.declared.page.Row.{Row}
 pub record Listed (v : Vocabulary) (k : Kind) (r : Row) : Type 0 where
   pub sub_named : Named v r.sub
   pub sup_named : Named v r.sup
-  pub different : r.sub ≡ r.sup → ⊥
-  pub some : r.code ≡ k.none → ⊥
+  pub different : r.sub ≢ r.sup
+  pub some : r.code ≢ k.none
   pub grade : Grade v k r.sub r.sup r.code
 
 -- by the first concept, and then by the second

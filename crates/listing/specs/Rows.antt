@@ -10,10 +10,14 @@ use Rattle.listing.specs.declared.page.Row.{Row}
 abbrev pub code_to_list : Vocabulary → Kind → Board → ℕ → ℕ → Option ℕ
 code_to_list v k b a d = cond ((not (a == d) && (is_named v a && is_named v d)) && not (b.found (under a d) == k.none)) (Some (b.found (under a d))) None
 
+-- the row of two concepts and a code
+abbrev pub row : ℕ → ℕ → ℕ → Row
+row a d g = record { sub = a; sup = d; code = g }
+
 -- the row of a and d, if there is a code to list
 abbrev pub row_of : ℕ → ℕ → Option ℕ → List Row
 row_of a d None = []
-row_of a d (Some g) = record { sub = a; sup = d; code = g } ∷ []
+row_of a d (Some g) = row a d g ∷ []
 
 -- the rows of a and the numbers below n
 abbrev pub rows_up_to : (ℕ → ℕ → Option ℕ) → ℕ → ℕ → List Row

@@ -175,6 +175,9 @@ struct Scene(&'static [u8], u64, Option<&'static [u8]>, &'static [Case]);
 const MATED: &[u8] =
     b"R\nA\nA\nA\nT\nS     0     1     1\nS     1     2     1\nS     2     0     1\n";
 
+/// How many steps finish the board of the next sheet.
+const STEPS: u64 = 8;
+
 /// One concept lies inside two others.
 const RAISED: &[u8] = b"R\nA\nA\nA\nT\nS     0     1     1\nS     0     2     1\n";
 
@@ -192,11 +195,13 @@ const NARROWER: Option<&[u8]> = Some(b"R\nA\nA\nA\n");
 
 const SHALLOWER: Option<&[u8]> = Some(b"A\nA\nA\nT\n");
 
-static PLAIN_SCENES: [Scene; 11] = [
+static PLAIN_SCENES: [Scene; 13] = [
     Scene(MATED, u64::MAX, None, MATES),
     Scene(RAISED, u64::MAX, None, PARENTS),
     Scene(RAISED, u64::MAX, None, PLAIN_POINTS),
     Scene(RAISED, 2, None, WAITING),
+    Scene(RAISED, STEPS - 1, None, WAITING),
+    Scene(RAISED, STEPS, None, PARENTS),
     Scene(b"", u64::MAX, None, NONE_THERE),
     Scene(RAISED, u64::MAX, WIDER, OTHERS),
     Scene(RAISED, u64::MAX, DEEPER, OTHERS),

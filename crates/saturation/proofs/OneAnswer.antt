@@ -17,7 +17,7 @@ use Rattle.reasoning.proofs.Complete.{complete}
 use Rattle.saturation.specs.declared.State.TheVariants.{Idle, Queued, Held}
 use Rattle.saturation.specs.Boards.{Board, Moment, Quiet}
 use Rattle.saturation.specs.Histories.{Event, History, unrechecked}
-use Rattle.saturation.specs.AnyOrder.{Due, Promise, AnyOrder}
+use Rattle.saturation.specs.AnyOrder.{Due, Promise, AnyOrder, DistinctDue}
 use Rattle.saturation.proofs.Good.{Tally}
 use Rattle.saturation.proofs.Places.{unchecked}
 use Rattle.saturation.proofs.Kept.{Kept, kept, quiet_found, due}
@@ -50,8 +50,8 @@ module _ (k : Kind) (lawful : Lawful k) (v : Vocabulary) (wf : WellFormed v) whe
       λ x. sound v (λ code. k.holds code p) a d (o.good.sound (under a d) p (i.0, l) t x),
       λ f. (and_parts (inside v (under a d)) (k.holds (b.found (under a d)) p) (complete v (λ code. k.holds code p) wf (table p) (closed q p t) a d i l f)).1,
     );
-    few_steps = (us, y.distinct, (λ u n. due v wf k lawful b u o.good (y.each u n)), y.count);
-    exact_steps = λ one q. (us, y.distinct, (λ u n. due v wf k lawful b u o.good (y.each u n)), everything one q, y.count);
+    few_steps = some;
+    exact_steps = λ one q. record { some = some; every = everything one q };
     at_rest = quiet_at_rest o;
     sane = o.good.sane;
   }
@@ -81,6 +81,9 @@ module _ (k : Kind) (lawful : Lawful k) (v : Vocabulary) (wf : WellFormed v) whe
           let parts : (j : Job) → Memᴰ j js → Within v (fact_of j) × (k.holds (b.found (fact_of j)) p ≡ true)
           = λ j n. let t = and_parts (inside v (fact_of j)) (k.holds (b.found (fact_of j)) p) (z j n) in (inside_within v (fact_of j) t.0, t.1) in
           and_from (inside v f) (k.holds (b.found f) p) (within_inside v f (conclusion_within v wf r (λ j n. (parts j n).0))) (quiet_found v wf k lawful b o.good q p l js f r parts)
+
+      some : DistinctDue v k b.steps
+      some = record { pairs = us; distinct = y.distinct; each = λ u n. due v wf k lawful b u o.good (y.each u n); count = y.count }
 
       everything : k.points ≡ 1 → Quiet v b → (u : Job × ℕ) → Due v k u → Memᴰ u us
       everything one q u d =

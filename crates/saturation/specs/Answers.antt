@@ -1,7 +1,7 @@
 -- What the questions to a finished board answer, over a relation "lies under" between concepts: the board's own, or that of all finite models.
 use Rattle.std.specs.Prelude.{◌≡◌, ℕ, ◌<◌, ◌≤◌, true, List, [], ◌∷◌, length, Decides, ◌≢◌}
 use mathlib.Core.List.{Memᴰ}
-use Rattle.grades.specs.Kinds.{Kind, Lawful}
+use Rattle.grades.specs.Kinds.{Kind, Lawful, on_at}
 use Rattle.terms.specs.Vocabularies.{Vocabulary, Named, WellFormed}
 use Rattle.reasoning.specs.declared.Fact.TheVariants.{Under as under}
 use Rattle.reasoning.specs.Models.{Entails}
@@ -14,7 +14,7 @@ FoundUnder k b p c d = k.holds (b.found (under c d)) p ≡ true
 
 -- in every finite model at the point, c lies under d
 abbrev pub TrulyUnder : Vocabulary → Kind → ℕ → ℕ → ℕ → Type 0
-TrulyUnder v k p c d = Entails v (λ code. k.holds code p) c d
+TrulyUnder v k p c d = Entails v (on_at k p) c d
 
 -- the grade holds a point exactly where c lies under d in every finite model
 abbrev pub Truthful : Vocabulary → Kind → ℕ → ℕ → ℕ → Type 0

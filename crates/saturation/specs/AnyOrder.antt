@@ -1,7 +1,7 @@
 -- No number of workers and no order of calls decides a finished answer.
 use Rattle.std.specs.Prelude.{◌≡◌, ℕ, ◌+◌, ◌*◌, ◌<◌, ◌≤◌, true, false, ◌⊎◌, List, [], ◌∷◌, length, ◌≢◌}
 use mathlib.Core.List.{Memᴰ}
-use Rattle.grades.specs.Kinds.{Kind, Lawful}
+use Rattle.grades.specs.Kinds.{Kind, Lawful, on_at}
 use Rattle.terms.specs.Vocabularies.{Vocabulary, WellFormed}
 use Rattle.reasoning.specs.declared.Fact.{Fact}
 use Rattle.reasoning.specs.declared.Job.{Job}
@@ -24,15 +24,19 @@ Distinct (x ∷ xs) = (Memᴰ x xs → ⊥) × Distinct xs
 pub record Due (v : Vocabulary) (k : Kind) (u : Job × ℕ) : Type 0 where
   pub at : (c : ℕ) × JobAt v u.0 c
   pub point : u.1 < k.points
-  pub derivable : Derivable v (λ code. k.holds code u.1) (fact_of u.0)
+  pub derivable : Derivable v (on_at k u.1) (fact_of u.0)
 
--- there are n distinct such pairs
-abbrev pub DistinctDue : Vocabulary → Kind → ℕ → Type 0
-DistinctDue v k n = (us : List (Job × ℕ)) × Distinct us × ((u : Job × ℕ) → Memᴰ u us → Due v k u) × (n ≡ length us)
+-- n such pairs, no two of them the same
+pub record DistinctDue (v : Vocabulary) (k : Kind) (n : ℕ) : Type 0 where
+  pub pairs : List (Job × ℕ)
+  pub distinct : Distinct pairs
+  pub each : (u : Job × ℕ) → Memᴰ u pairs → Due v k u
+  pub count : n ≡ length pairs
 
 -- there are n such pairs in all
-abbrev pub AllDue : Vocabulary → Kind → ℕ → Type 0
-AllDue v k n = (us : List (Job × ℕ)) × Distinct us × ((u : Job × ℕ) → Memᴰ u us → Due v k u) × ((u : Job × ℕ) → Due v k u → Memᴰ u us) × (n ≡ length us)
+pub record AllDue (v : Vocabulary) (k : Kind) (n : ℕ) : Type 0 where
+  pub some : DistinctDue v k n
+  pub every : (u : Job × ℕ) → Due v k u → Memᴰ u some.pairs
 
 -- what every history promises of the moment that it led to
 pub record Promise (v : Vocabulary) (k : Kind) (es : List Event) (m : Moment) : Type 0 where

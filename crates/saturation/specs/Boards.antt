@@ -1,7 +1,7 @@
 -- What a board says: the found grade of each fact, the done grade of each job, each concept's state, and the count of steps.
 use Rattle.std.specs.Prelude.{◌≡◌, ℕ, ◌<◌, Bool, true, List, ◌≢◌}
 use mathlib.Core.List.{Memᴰ}
-use Rattle.grades.specs.Kinds.{Kind}
+use Rattle.grades.specs.Kinds.{Kind, on_at}
 use Rattle.terms.specs.Vocabularies.{Vocabulary}
 use Rattle.reasoning.specs.declared.Fact.{Fact}
 use Rattle.reasoning.specs.declared.Job.{Job}
@@ -65,11 +65,15 @@ pub record First (v : Vocabulary) (b : Board) (c : ℕ) (j : Job) : Type 0 where
 
 -- with these done grades, a rule with the job among its premises draws the fact at the point
 abbrev pub Draws : Vocabulary → Kind → (Job → ℕ) → Job → Fact → ℕ → Type 0
-Draws v k done j f p = (js : List Job) × Rule v (λ code. k.holds code p) js f × Memᴰ j js × ((i : Job) → Memᴰ i js → k.holds (done i) p ≡ true)
+Draws v k done j f p = (js : List Job) × Rule v (on_at k p) js f × Memᴰ j js × ((i : Job) → Memᴰ i js → k.holds (done i) p ≡ true)
+
+-- the found grade of the job's fact changed
+abbrev pub Changed : Board → Board → Job → Type 0
+Changed a b j = a.found (fact_of j) ≢ b.found (fact_of j)
 
 -- a job of a fact whose found grade changed waits at the concept
 abbrev pub Stirred : Vocabulary → Board → Board → ℕ → Type 0
-Stirred v a b x = (j : Job) × JobAt v j x × (a.found (fact_of j) ≢ b.found (fact_of j)) × Waits b j
+Stirred v a b x = (j : Job) × JobAt v j x × Changed a b j × Waits b j
 
 -- the concept is idle and a job waits there
 abbrev pub Missed : Vocabulary → Board → ℕ → Type 0

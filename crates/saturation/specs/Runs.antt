@@ -6,7 +6,7 @@ use Rattle.reasoning.specs.declared.Job.{Job}
 use Rattle.saturation.specs.declared.State.TheVariants.{Queued}
 use Rattle.saturation.specs.declared.Outcome.{Outcome}
 use Rattle.saturation.specs.declared.Outcome.TheVariants.{Finished, Spent, Left}
-use Rattle.saturation.specs.Boards.{Moment, Quiet, QuietAt}
+use Rattle.saturation.specs.Boards.{Board, Moment, Quiet, QuietAt}
 use Rattle.saturation.specs.Effects.{Took, Worked, Lowered, Rechecked, Unchanged}
 use Rattle.saturation.specs.Histories.{Event, took, worked, lowered, rechecked, other}
 
@@ -20,9 +20,13 @@ pub data Exhausts (v : Vocabulary) (k : Kind) (c : ℕ) : ℕ → ℕ → List E
 abbrev pub EmptyPile : Moment → Type 0
 EmptyPile a = (x : ℕ) → a.pile x ≡ false
 
--- the pile holds a number that is not queued on this board of n concepts
+-- the number is not queued on this board of n concepts
+abbrev pub Unqueued : ℕ → Board → ℕ → Type 0
+Unqueued n b x = x < n → b.state x ≢ Queued
+
+-- the pile holds a number that is not queued
 abbrev pub NotQueued : ℕ → Moment → Type 0
-NotQueued n a = (x : ℕ) × (a.pile x ≡ true) × (x < n → a.board.state x ≢ Queued)
+NotQueued n a = (x : ℕ) × (a.pile x ≡ true) × Unqueued n a.board x
 
 -- there is nothing to take: the pile is empty, or gives a number that is not queued
 abbrev pub NothingToTake : ℕ → Moment → Type 0

@@ -76,7 +76,7 @@ pub fn share<'a, K: GradeKind, P: Pile>(
 
 /// A board that was shared, and what it answers.
 #[derive(Drop)]
-pub struct Asked<'a, K> {
+pub struct Shared<'a, K> {
     pub board: ClosedBoard<'a, K>,
     pub answer: Result<u16, Rejection>,
 }
@@ -91,7 +91,7 @@ pub fn share_and_ask<'a, K: GradeKind, P: Pile>(
     workers: u16,
     a: u16,
     d: u16,
-) -> Asked<'a, K>
+) -> Shared<'a, K>
     ensures lent { result.board.words.ghost_name ≡ words.entry.ghost_name }
     ensures asked { AskedOr (terms_of terms.now) K.GradeKind.kind P.Pile.numbers a d words.old pile.old result.board pile.new result.answer }
 {
@@ -101,5 +101,5 @@ pub fn share_and_ask<'a, K: GradeKind, P: Pile>(
         Ok(()) => board.under(terms, a, d),
         Err(rejection) => Err(rejection),
     };
-    Asked { board, answer }
+    Shared { board, answer }
 }

@@ -30,11 +30,11 @@ struct End {
 fn shared<K: GradeKind>(terms: &Terms, words: &mut [u16], kind: K, workers: u16) -> End {
     let mut list = [0; 6];
     let mut ring = Ring::new(&mut list);
-    let asked = share_and_ask(terms, words, &mut ring, kind, workers, 0, 3);
+    let end = share_and_ask(terms, words, &mut ring, kind, workers, 0, 3);
     End {
-        answer: asked.answer,
-        under: asked.board.under(terms, 0, 3),
-        steps: asked.board.steps(),
+        answer: end.answer,
+        under: end.board.under(terms, 0, 3),
+        steps: end.board.steps(),
         piled: ring.count(),
     }
 }

@@ -4,7 +4,9 @@ use Rattle.std.specs.Simd.{first_chunks}
 use Rattle.terms.specs.declared.entry.Entry.{Entry}
 use Rattle.terms.specs.declared.tally.Room.{Room}
 use Rattle.terms.specs.declared.tally.Tally.{Tally}
+use Rattle.terms.specs.Contents.{Contents, nothing}
 use Rattle.terms.specs.Counting.{verdict_of, counted, none_of}
+use Rattle.terms.specs.Entries.{with_entries}
 use Rattle.sheet.specs.declared.fault.Fault.{Fault}
 use Rattle.sheet.specs.declared.fault.LineFault.{LineFault}
 use Rattle.sheet.specs.Faults.{and_then, raised, placed, in_sheet, blamed, unfinished}
@@ -47,6 +49,10 @@ stated_by (Err x) = []
 abbrev pub entries_of : List (List ℕ) → List Entry
 entries_of [] = []
 entries_of (l ∷ ls) = stated_by (line_of l) ++ entries_of ls
+
+-- the contents that a text of faultless lines states
+abbrev pub contents_in : List ℕ → Contents
+contents_in text = with_entries (entries_of (lines_in text)) nothing
 
 -- s becomes t by taking the entry that the line k states
 pub record TookLine {S : Type 0} (counts : S → Tally) (grows : Entry → S → S → Type 0) (k : ℕ) (l : List ℕ) (s t : S) : Type 0 where

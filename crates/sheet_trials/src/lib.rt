@@ -2,11 +2,9 @@
 #![tactic(auto)]
 
 ghost use Rattle.std.specs.Prelude.{◌≡◌, length, MatchResult};
-ghost use Rattle.terms.specs.Contents.{nothing};
 ghost use Rattle.terms.specs.Counting.{room_for};
-ghost use Rattle.terms.specs.Entries.{with_entries};
 ghost use Rattle.terms.specs.Lent.{onto};
-ghost use Rattle.sheet.specs.Sheet.{lines_in, sheet_of, entries_of};
+ghost use Rattle.sheet.specs.Sheet.{sheet_of, contents_in};
 
 use sheet::fault::Fault;
 use sheet::read;
@@ -23,7 +21,7 @@ pub fn load(
     text: &[u8],
 ) -> Result<usize, Fault>
     ensures result { result ≡ sheet_of (room_for (length concepts.old) (length inclusions.old)) text.now }
-    ensures lists { MatchResult result (λ _. (concepts.new ≡ onto (with_entries (entries_of (lines_in text.now)) nothing).concepts concepts.old) × (inclusions.new ≡ onto (with_entries (entries_of (lines_in text.now)) nothing).inclusions inclusions.old)) (λ _. (concepts.new ≡ concepts.old) × (inclusions.new ≡ inclusions.old)) }
+    ensures lists { MatchResult result (λ _. (concepts.new ≡ onto (contents_in text.now).concepts concepts.old) × (inclusions.new ≡ onto (contents_in text.now).inclusions inclusions.old)) (λ _. (concepts.new ≡ concepts.old) × (inclusions.new ≡ inclusions.old)) }
 {
     let mut terms = Terms::empty(concepts, inclusions);
     read(text, &mut terms)

@@ -13,9 +13,13 @@ pub record Vocabulary : Type 0 where
   pub below : ℕ → ℕ → Bool
   pub transitive : ℕ → Bool
 
+-- concept number c, or an atomic one beyond the last
+abbrev pub concept : Vocabulary → ℕ → Concept
+concept v c = slice_index_or v.concepts c Atomic
+
 -- concept number c is the concept k
 abbrev pub Is : Vocabulary → ℕ → Concept → Type 0
-Is v c k = (c < length v.concepts) × (slice_index_or v.concepts c Atomic ≡ k)
+Is v c k = (c < length v.concepts) × (concept v c ≡ k)
 
 -- the concept counts in start facts, listings and questions
 abbrev pub Named : Vocabulary → ℕ → Type 0

@@ -25,13 +25,14 @@ const UNFIT: Answer = Err(Rejected(Rejection::UnfitLease));
 const NOTHING_WAITS: Answer = Err(Rejected(Rejection::NothingWaits));
 
 /// The board has concepts 0 and 1, which are queued at first, and 2, a top, which is idle; 3 is the wider board's alone.
-pub static OWN_LEASE: [Line; 26] = [
+pub static OWN_LEASE: [Line; 28] = [
     Line(Own, Take, Other(2, None), Same, SMALL_PILE),
     Line(Own, Take, Other(2, Some(0)), Same, SMALL_PILE),
     Line(Own, Take, Other(3, None), Same, EMPTY_PILE),
     Line(Own, Take, Other(3, Some(2)), Same, NOT_QUEUED),
     Line(Own, Take, Other(4, Some(3)), Same, NOT_QUEUED),
     Line(Own, Take, Board, Same, FINE),
+    Line(Foreign, Take, Other(2, Some(0)), Same, SMALL_PILE),
     Line(Foreign, Take, Other(3, Some(0)), Same, NOT_QUEUED),
     Line(Own, Step, Board, ConceptMore, OTHER_TERMS),
     Line(Own, Step, Board, RoleMore, OTHER_TERMS),
@@ -42,6 +43,7 @@ pub static OWN_LEASE: [Line; 26] = [
     Line(Own, Step, Board, Same, FINE),
     Line(Own, Step, Board, Same, NOTHING_WAITS),
     Line(Own, Step, Other(2, None), Same, SMALL_PILE),
+    Line(Own, Step, Board, RoleMore, OTHER_TERMS),
     Line(Own, Lower, Board, Same, FINE),
     Line(Foreign, Take, Other(3, Some(0)), Same, NOT_QUEUED),
     Line(Own, Recheck, Board, ConceptMore, OTHER_TERMS),
@@ -54,7 +56,7 @@ pub static OWN_LEASE: [Line; 26] = [
     Line(Own, Take, Board, Same, EMPTY_PILE),
 ];
 
-/// A token of a concept that the board lacks.
+/// A token of a concept that the board lacks, and that is the last of the wider one.
 pub static TOO_HIGH: [Line; 16] = [
     Line(Own, Take, Board, Same, FINE),
     Line(Foreign, Take, WideFrom(3), ConceptMore, FINE),

@@ -82,7 +82,7 @@ fn each_call_answers_as_the_script_says(rt: HostRuntime) -> Result<(), Fail> {
     }
     assert_eq!(rt; score.wrong, None);
     let count = score.count;
-    println!(rt; "answers checked: {count}")?;
-    assert_eq!(rt; count, 193);
+    println!(rt; "checks: {count}")?;
+    assert_eq!(rt; count, 199);
     Ok(())
 }

@@ -32,20 +32,22 @@ mod tests {
         }
     }
 
-    // Whether all agree of sheets of up to so many concepts, each once whole and once damaged.
-    fn all_agree(heap: Global, seed: u64, rounds: u32, size: Size) -> Result<bool, AllocError> {
+    // How many sheets of up to so many concepts agree, each once whole and once damaged, until one does not.
+    fn agreeing(heap: Global, seed: u64, rounds: u32, size: Size) -> Result<u32, AllocError> {
         let mut random = Random::seeded(seed);
         let mut page = [0; PAGE];
+        let mut count = 0u32;
         for _ in 0..rounds {
             let sheet = random_sheet(heap, &mut random, size)?;
             let broken = damaged(heap, &mut random, sheet.as_slice())?;
             if !agrees(heap, sheet.as_slice(), &mut page)?
                 || !agrees(heap, broken.as_slice(), &mut page)?
             {
-                return Ok(false);
+                return Ok(count);
             }
+            count = count.saturating_add(2);
         }
-        Ok(true)
+        Ok(count)
     }
 
     #[test]
@@ -56,8 +58,9 @@ mod tests {
             inclusions: 6,
             most_code: 66,
         };
-        assert!(rt; all_agree(rt.alloc(), 1, 1500, size)?);
-        println!(rt; "small sheets compared: 3000")?;
+        let count = agreeing(rt.alloc(), 1, 1500, size)?;
+        println!(rt; "small sheets that agree: {count}")?;
+        assert_eq!(rt; count, 3000);
         Ok(())
     }
 
@@ -69,8 +72,9 @@ mod tests {
             inclusions: 22,
             most_code: 64,
         };
-        assert!(rt; all_agree(rt.alloc(), 2, 500, size)?);
-        println!(rt; "larger sheets compared: 1000")?;
+        let count = agreeing(rt.alloc(), 2, 500, size)?;
+        println!(rt; "larger sheets that agree: {count}")?;
+        assert_eq!(rt; count, 1000);
         Ok(())
     }
 
@@ -148,11 +152,13 @@ mod tests {
         };
         let mut random = Random::seeded(3);
         let mut met = Met::default();
+        let mut count = 0u32;
         for _ in 0..4000u32 {
             let sheet = random_sheet(rt.alloc(), &mut random, size)?;
             let broken = damaged(rt.alloc(), &mut random, sheet.as_slice())?;
             let fault = fault_of(&broken);
             assert_eq!(rt; fault, first_fault(&broken, ROOM).map(Known::from));
+            count = count.saturating_add(1);
             if let Some(fault) = fault {
                 met.add(fault.layer);
             }
@@ -164,7 +170,7 @@ mod tests {
         } = met;
         assert!(rt; fields > 0 && lines > 0 && sheets > 0);
         println!(rt;
-            "damaged sheets compared: 4000, with {fields} faults of fields, {lines} of lines and {sheets} of sheets"
+            "damaged sheets that agree: {count}, with {fields} faults of fields, {lines} of lines and {sheets} of sheets"
         )?;
         Ok(())
     }

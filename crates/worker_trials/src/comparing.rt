@@ -95,6 +95,11 @@ impl<'t> Truth<'t> {
         check_list(above, &list, &expected, "other parents")
     }
 
+    /// Whether the other classifier has a named concept there.
+    pub fn is_named(&self, a: u16) -> bool {
+        self.vocabulary.is_atomic(usize::from(a))
+    }
+
     /// The grades of a named concept are those that the board answers, and so are its mates and parents at a random point.
     fn check_row<K: GradeKind>(
         &self,
@@ -102,7 +107,7 @@ impl<'t> Truth<'t> {
         a: u16,
         point: u8,
     ) -> Result<(), Trouble<Slots>> {
-        for d in (0..CONCEPTS as u16).take(self.terms.concepts().len()) {
+        for d in (0..CONCEPTS as u16).take(self.vocabulary.concepts.len()) {
             if board.under(self.terms, a, d).ok() != self.under(a, d) {
                 return Err(Trouble::Differs("another grade"));
             }
@@ -119,7 +124,7 @@ impl<'t> Truth<'t> {
         if !self.allows(board.steps()) {
             return Err(Trouble::Differs("another count of steps"));
         }
-        for a in (0..CONCEPTS as u16).filter(|a| self.terms.is_named(*a)) {
+        for a in (0..CONCEPTS as u16).filter(|a| self.is_named(*a)) {
             let point = course.random.below(usize::from(K::points())).min(63) as u8;
             self.check_row(board, a, point)?;
         }

@@ -137,7 +137,7 @@ impl<'t, K: GradeKind> Trial<'t, K> {
                 count(&mut course.tally.waiting);
                 course.expect(waits);
             }
-            Err(Rejection::NoSuchConcept) => course.expect(!waits && !self.truth.terms.is_named(a)),
+            Err(Rejection::NoSuchConcept) => course.expect(!waits && !self.truth.is_named(a)),
             Err(_) => course.expect(false),
         }
         closed.reopen()

@@ -1,14 +1,15 @@
 //! What the two joining rules draw: they have a link job and an implication job as premises, of one concept.
-ghost use Rattle.std.specs.Prelude.{◌≡◌, ◌<◌, slice_index_or};
-ghost use Rattle.terms.specs.declared.records.Concept.TheVariants.{Atomic as atomic};
+ghost use Rattle.std.specs.Prelude.{◌≡◌, ◌<◌};
 ghost use Rattle.terms.specs.Views.{terms_of};
+ghost use Rattle.terms.specs.Vocabularies.{concept};
 ghost use Rattle.board.specs.Views.{content_of};
 ghost use Rattle.board.specs.Sessions.{SessionDrawn};
 ghost use Rattle.board.specs.OwnDraws.{AnyBelow};
-ghost use Rattle.board.specs.JoinDraws.{partner, conclusion, Placed, Heads, ByPartner, ByPartners, ByRole, ByJoin, ByLink, ByFiller, ByImplication};
+ghost use Rattle.board.specs.JoinDraws.{line_of, partner, conclusion, Placed, Heads, ByPartner, ByPartners, ByRole, ByJoin, ByLink, ByFiller, ByImplication};
 
 use super::session::Session;
 use crate::lookup::concept_at;
+use crate::reader::finding::Line;
 use grades::kind::GradeKind;
 use piles::pile::Pile;
 use reasoning::{Fact, Job};
@@ -61,18 +62,25 @@ pub(crate) struct Implication {
 }
 
 impl Partners {
-    /// The partner with the number `i`.
-    fn job(self, i: u16) -> Job
-        ensures { result ≡ partner self i }
+    /// The line that they are on.
+    fn line(self) -> Line
+        ensures { result ≡ line_of self }
     {
         match self {
             Partners::Implications {
                 left: _,
                 role,
                 filler,
-            } => Job::Imply(role, filler, i),
-            Partners::Links { by, right: _ } => Job::Link(i, by),
+            } => Line::Implications(role, filler),
+            Partners::Links { by, right: _ } => Line::Links(by),
         }
+    }
+
+    /// The partner with the number `i`.
+    fn job(self, i: u16) -> Job
+        ensures { result ≡ partner self i }
+    {
+        self.line().job(i)
     }
 
     /// What it leads to.
@@ -188,7 +196,7 @@ impl<'w, 'a, 't, K: GradeKind, P: Pile> Session<'w, 'a, 't, K, P> {
     fn draw_filler(&mut self, implication: Implication, x: u16)
         requires right { implication.right < self.old.board.now.counts.concepts }
         requires by { x < self.old.board.now.counts.concepts }
-        ensures { SessionDrawn K.GradeKind.kind P.Pile.numbers (λ v. ByFiller v K.GradeKind.kind (content_of self.old.board.now).done implication x (slice_index_or v.concepts x atomic)) self.old self.new }
+        ensures { SessionDrawn K.GradeKind.kind P.Pile.numbers (λ v. ByFiller v K.GradeKind.kind (content_of self.old.board.now).done implication x (concept v x)) self.old self.new }
     {
         if let Concept::Restriction(r, b) = concept_at(self.terms, x) {
             if b == implication.left {

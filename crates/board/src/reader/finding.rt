@@ -37,7 +37,7 @@ pub(crate) enum Line {
 
 impl Line {
     /// The job with the number `i`.
-    fn job(self, i: u16) -> Job
+    pub(crate) fn job(self, i: u16) -> Job
         ensures { result ≡ job_of self i }
     {
         match self {

@@ -1,7 +1,8 @@
 //! Which concepts are mates or parents of the one that is asked about.
-ghost use Rattle.std.specs.Prelude.{◌≡◌, ◌<◌, ◌≤◌, ◌++◌, length, drop};
+ghost use Rattle.std.specs.Prelude.{◌≡◌, ◌<◌, ◌≤◌, length};
+ghost use Rattle.terms.specs.Lent.{onto};
 ghost use Rattle.board.specs.Views.{read_of};
-ghost use Rattle.board.specs.Asking.{asked_of, under_test, mate_test, between_test, lowest_test, nothing_between_test, parent_test, wanted, picked};
+ghost use Rattle.board.specs.Asking.{asked_of, under_test, mate_test, between_test, lowest_test, nothing_between_test, parent_test, wanted, answer_of};
 
 use super::{Asked, Question};
 use grades::kind::GradeKind;
@@ -92,7 +93,7 @@ impl<'b, K: GradeKind> Asked<'b, K> {
 
     /// How many concepts belong to the answer.
     pub(crate) fn count_wanted(&self) -> usize
-        ensures { result ≡ length (picked (wanted K.GradeKind.kind self.now) self.now.board.reader.counts.concepts) }
+        ensures { result ≡ length (answer_of K.GradeKind.kind self.now) }
     {
         (0..self.board.reader.counts.concepts as u16)
             .filter(|b| self.is_wanted(*b))
@@ -101,8 +102,8 @@ impl<'b, K: GradeKind> Asked<'b, K> {
 
     /// Writes the answer, ascending, to the front of the list.
     pub(crate) fn write_wanted(&self, list: &mut [u16])
-        requires { length (picked (wanted K.GradeKind.kind self.now) self.now.board.reader.counts.concepts) ≤ length list.old }
-        ensures { list.new ≡ picked (wanted K.GradeKind.kind self.now) self.now.board.reader.counts.concepts ++ drop (length (picked (wanted K.GradeKind.kind self.now) self.now.board.reader.counts.concepts)) list.old }
+        requires { length (answer_of K.GradeKind.kind self.now) ≤ length list.old }
+        ensures { list.new ≡ onto (answer_of K.GradeKind.kind self.now) list.old }
     {
         // Tried: over a filtered range with `enumerate` the check refuses the loop's own goals (`iterator-loop-place`: expected `RattleType`).
         let mut filled = 0;
