@@ -128,7 +128,7 @@ module _ {X Y : Type 0} (v : Vocabulary) (k : Kind) (numbers : Y → Numbers) (c
 
   -- where no job waited before the lowering, none waits after it
   quiet_on : QuietAt v (content_of b) c → QuietAt v (content_of d) c
-  quiet_on Q j at = let w = at_within _ at in was_lowered.grades.done j w ∙ Q j at ∙ sym (was_lowered.grades.found (fact_of j) w)
+  quiet_on Q j at = let w = at_within _ at in was_lowered.moved.grades.done j w ∙ Q j at ∙ sym (was_lowered.moved.grades.found (fact_of j) w)
 
   pub turned : (f : OpenBoard X) (r : Y) → StaysSane k b d → Kept numbers d q f r → StaysSane k d f → Rechecked v c (moment_of numbers d q) (moment_of numbers f r) → Turned v k numbers c budget steps a p f r
   turned f r S K T C = record {

@@ -6,7 +6,7 @@ use Rattle.reasoning.specs.Derivations.{Fits, fact_of}
 use Rattle.saturation.specs.declared.State.{State}
 use Rattle.saturation.specs.declared.State.TheVariants.{Idle, Queued, Held}
 use Rattle.saturation.specs.Boards.{Board, Moment, InLine, Stays}
-use Rattle.saturation.specs.Effects.{SameGrades}
+use Rattle.saturation.specs.Effects.{SameGrades, Moved}
 use Rattle.board.specs.declared.board.states.Change.{Change}
 use Rattle.board.specs.declared.board.states.Change.TheVariants.{Take, Raise, Lower, Recheck}
 
@@ -40,12 +40,6 @@ after Lower Held = Some Idle
 after Recheck Idle = Some Queued
 after Recheck Queued = None
 after Recheck Held = None
-
--- the concept has the state s, and all else is as before
-pub record Moved (n m c : ℕ) (s : State) (a b : Board) : Type 0 where
-  pub here : b.state c ≡ s
-  pub others : (x : ℕ) → x < n → (x ≢ c) → b.state x ≡ a.state x
-  pub grades : SameGrades n m a b
 
 -- the concept's state follows the table: it is what it leads to, or else nothing has changed
 abbrev pub Shifted : {X : Type 0} → (X → Board) → ℕ → ℕ → ℕ → Option State → X → X → Bool → Type 0

@@ -36,14 +36,14 @@ module _ (v : Vocabulary) (wf : WellFormed v) (k : Kind) (lawful : Lawful k) whe
 
   pub took_busy : (c : ℕ) (a b : Moment) → Took (length v.concepts) v.roles c a b → Busy v a.board → Busy v b.board
   took_busy c a b t old x l q h = elim (cases_eq x c) [
-    | inl e ↦ held≢queued (b.board.state x) (ap b.board.state e ∙ t.held) q
-    | inr n ↦ old x l (sym (t.others x l n) ∙ q) (quiet_before v a.board b.board x t.grades h)
+    | inl e ↦ held≢queued (b.board.state x) (ap b.board.state e ∙ t.moved.here) q
+    | inr n ↦ old x l (sym (t.moved.others x l n) ∙ q) (quiet_before v a.board b.board x t.moved.grades h)
   ]
 
   pub lowered_busy : (c : ℕ) (a b : Moment) → Lowered (length v.concepts) v.roles c a b → Busy v a.board → Busy v b.board
   lowered_busy c a b t old x l q h = elim (cases_eq x c) [
-    | inl e ↦ idle≢queued (b.board.state x) (ap b.board.state e ∙ t.idle) q
-    | inr n ↦ old x l (sym (t.others x l n) ∙ q) (quiet_before v a.board b.board x t.grades h)
+    | inl e ↦ idle≢queued (b.board.state x) (ap b.board.state e ∙ t.moved.here) q
+    | inr n ↦ old x l (sym (t.moved.others x l n) ∙ q) (quiet_before v a.board b.board x t.moved.grades h)
   ]
 
   pub other_busy : (a b : Moment) → Unchanged (length v.concepts) v.roles a b → Busy v a.board → Busy v b.board

@@ -167,7 +167,7 @@ module _ (k : Kind) (lawful : Lawful k) (v : Vocabulary) (wf : WellFormed v) whe
       let done = exhausted x taken in
       let back = kept_step v wf k lawful (es ++ took c ∷ fs) (lowered c) d e w done.kept in
       let again = kept_step v wf k lawful (lowered c ∷ (es ++ took c ∷ fs)) (rechecked c) e f i back in
-      let s₁ = t.grades.steps in let s₂ = done.counted in let s₃ = w.grades.steps in let s₄ = i.grades.steps in let s₅ = done.within in
+      let s₁ = t.moved.grades.steps in let s₂ = done.counted in let s₃ = w.moved.grades.steps in let s₄ = i.grades.steps in let s₅ = done.within in
       runs_out y
       (record {
         kept = again;

@@ -26,9 +26,9 @@ module _ (v : Vocabulary) (wf : WellFormed v) (k : Kind) (lawful : Lawful k) whe
   -- one event more
   pub kept_step : (es : List Event) (e : Event) (a b : Moment) → Effect v k e a b → Kept v k es a → Kept v k (e ∷ es) b
   kept_step es (took c) a b t o = record {
-    good = good_same v wf k lawful t.grades o.good;
+    good = good_same v wf k lawful t.moved.grades o.good;
     placed = took_placed v wf k es a b o.placed c t;
-    tally = (o.tally.0, tally_same v wf k lawful t.grades o.tally.1);
+    tally = (o.tally.0, tally_same v wf k lawful t.moved.grades o.tally.1);
     busy = took_busy v wf k lawful c a b t o.busy;
   }
   kept_step es (worked c j) a b t o = record {
@@ -38,9 +38,9 @@ module _ (v : Vocabulary) (wf : WellFormed v) (k : Kind) (lawful : Lawful k) whe
     busy = worked_busy v wf k lawful c j a b t o.good.sane o.busy;
   }
   kept_step es (lowered c) a b t o = record {
-    good = good_same v wf k lawful t.grades o.good;
+    good = good_same v wf k lawful t.moved.grades o.good;
     placed = lowered_placed v wf k es a b o.placed c t;
-    tally = (o.tally.0, tally_same v wf k lawful t.grades o.tally.1);
+    tally = (o.tally.0, tally_same v wf k lawful t.moved.grades o.tally.1);
     busy = lowered_busy v wf k lawful c a b t o.busy;
   }
   kept_step es (rechecked c) a b t o = record {

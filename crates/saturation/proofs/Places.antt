@@ -117,38 +117,38 @@ module _ (v : Vocabulary) (wf : WellFormed v) (k : Kind) where
     pub took_placed : (c : ℕ) → Took (length v.concepts) v.roles c a b → Placed v (took c ∷ es) b
     took_placed c t = record {
       leases =
-          let x = count_change size c a.board.state b.board.state t.within (λ x l n. ap held_one (t.others x l n)) in
-          let p = ap held_one t.queued in let q = ap held_one t.held in let o = old.leases in omega arith;
+          let x = count_change size c a.board.state b.board.state t.within (λ x l n. ap held_one (t.moved.others x l n)) in
+          let p = ap held_one t.queued in let q = ap held_one t.moved.here in let o = old.leases in omega arith;
       nothing_lost = λ j x at h. elim (cases_eq x c) [
-        | inl e ↦ inr (inl (ap b.board.state e ∙ t.held))
-        | inr n ↦ carry a.board b.board es (took c ∷ es) x (t.others x (at_concept v wf at) n) (λ u. u) (old.nothing_lost j x at (waited v a.board b.board j t.grades (at_within v at) h))
+        | inl e ↦ inr (inl (ap b.board.state e ∙ t.moved.here))
+        | inr n ↦ carry a.board b.board es (took c ∷ es) x (t.moved.others x (at_concept v wf at) n) (λ u. u) (old.nothing_lost j x at (waited v a.board b.board j t.moved.grades (at_within v at) h))
       ];
       queued_in_pile = λ x l q. elim (cases_eq x c) [
-        | inl e ↦ absurd (held≢queued (b.board.state x) (ap b.board.state e ∙ t.held) q)
-        | inr n ↦ t.rest x n ∙ old.queued_in_pile x l (sym (t.others x l n) ∙ q)
+        | inl e ↦ absurd (held≢queued (b.board.state x) (ap b.board.state e ∙ t.moved.here) q)
+        | inr n ↦ t.rest x n ∙ old.queued_in_pile x l (sym (t.moved.others x l n) ∙ q)
       ];
       only_queued = λ x h. elim (cases_eq x c) [
         | inl e ↦ absurd (both_ways (b.pile x) (ap b.pile e ∙ t.out) h)
-        | inr n ↦ let o = old.only_queued x (sym (t.rest x n) ∙ h) in (o.0, t.others x o.0 n ∙ o.1)
+        | inr n ↦ let o = old.only_queued x (sym (t.rest x n) ∙ h) in (o.0, t.moved.others x o.0 n ∙ o.1)
       ];
     }
 
     pub lowered_placed : (c : ℕ) → Lowered (length v.concepts) v.roles c a b → Placed v (lowered c ∷ es) b
     lowered_placed c t = record {
       leases =
-          let x = count_change size c a.board.state b.board.state t.within (λ x l n. ap held_one (t.others x l n)) in
-          let p = ap held_one t.held in let q = ap held_one t.idle in let o = old.leases in omega arith;
+          let x = count_change size c a.board.state b.board.state t.within (λ x l n. ap held_one (t.moved.others x l n)) in
+          let p = ap held_one t.held in let q = ap held_one t.moved.here in let o = old.leases in omega arith;
       nothing_lost = λ j x at h. elim (cases_eq x c) [
         | inl e ↦ inr (inr (rw (eq-eqb x c e)))
-        | inr n ↦ carry a.board b.board es (lowered c ∷ es) x (t.others x (at_concept v wf at) n) (λ u. rw (ne_eqb x c n) u) (old.nothing_lost j x at (waited v a.board b.board j t.grades (at_within v at) h))
+        | inr n ↦ carry a.board b.board es (lowered c ∷ es) x (t.moved.others x (at_concept v wf at) n) (λ u. rw (ne_eqb x c n) u) (old.nothing_lost j x at (waited v a.board b.board j t.moved.grades (at_within v at) h))
       ];
       queued_in_pile = λ x l q. elim (cases_eq x c) [
-        | inl e ↦ absurd (idle≢queued (b.board.state x) (ap b.board.state e ∙ t.idle) q)
-        | inr n ↦ t.pile x ∙ old.queued_in_pile x l (sym (t.others x l n) ∙ q)
+        | inl e ↦ absurd (idle≢queued (b.board.state x) (ap b.board.state e ∙ t.moved.here) q)
+        | inr n ↦ t.pile x ∙ old.queued_in_pile x l (sym (t.moved.others x l n) ∙ q)
       ];
       only_queued = λ x h. let o = old.only_queued x (sym (t.pile x) ∙ h) in elim (cases_eq x c) [
         | inl e ↦ absurd (held≢queued (a.board.state x) (ap a.board.state e ∙ t.held) o.1)
-        | inr n ↦ (o.0, t.others x o.0 n ∙ o.1)
+        | inr n ↦ (o.0, t.moved.others x o.0 n ∙ o.1)
       ];
     }
 

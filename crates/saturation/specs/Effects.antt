@@ -6,6 +6,7 @@ use Rattle.reasoning.specs.declared.Fact.{Fact}
 use Rattle.reasoning.specs.declared.Fact.TheVariants.{Under as under}
 use Rattle.reasoning.specs.declared.Job.{Job}
 use Rattle.reasoning.specs.Derivations.{Fits, Within, fact_of}
+use Rattle.saturation.specs.declared.State.{State}
 use Rattle.saturation.specs.declared.State.TheVariants.{Idle, Queued, Held}
 use Rattle.saturation.specs.Boards.{Board, Moment, InLine, Stays, First, Draws, Stirred, Missed}
 
@@ -32,16 +33,20 @@ pub record Made (v : Vocabulary) (k : Kind) (m : Moment) : Type 0 where
   pub nothing_else : (c : ℕ) → (Named v c → ⊥) → m.pile c ≡ false
   pub no_steps : m.board.steps ≡ 0
 
+-- the concept has the state s, and all else is as before
+pub record Moved (n m c : ℕ) (s : State) (a b : Board) : Type 0 where
+  pub here : b.state c ≡ s
+  pub others : (x : ℕ) → x < n → (x ≢ c) → b.state x ≡ a.state x
+  pub grades : SameGrades n m a b
+
 -- take: a queued concept leaves the pile and is held
 pub record Took (n m c : ℕ) (a b : Moment) : Type 0 where
   pub drawn : a.pile c ≡ true
   pub within : c < n
   pub queued : a.board.state c ≡ Queued
-  pub held : b.board.state c ≡ Held
-  pub others : (x : ℕ) → x < n → (x ≢ c) → b.board.state x ≡ a.board.state x
+  pub moved : Moved n m c Held a.board b.board
   pub out : b.pile c ≡ false
   pub rest : (x : ℕ) → (x ≢ c) → b.pile x ≡ a.pile x
-  pub grades : SameGrades n m a.board b.board
 
 -- found grades grow by exactly the facts and points of P
 pub record Grows (v : Vocabulary) (k : Kind) (P : Fact → ℕ → Type 0) (a b : Board) : Type 0 where
@@ -72,10 +77,8 @@ pub record Worked (v : Vocabulary) (k : Kind) (c : ℕ) (j : Job) (a b : Moment)
 pub record Lowered (n m c : ℕ) (a b : Moment) : Type 0 where
   pub within : c < n
   pub held : a.board.state c ≡ Held
-  pub idle : b.board.state c ≡ Idle
-  pub others : (x : ℕ) → x < n → (x ≢ c) → b.board.state x ≡ a.board.state x
+  pub moved : Moved n m c Idle a.board b.board
   pub pile : (x : ℕ) → b.pile x ≡ a.pile x
-  pub grades : SameGrades n m a.board b.board
 
 -- recheck: the concept is queued if it is idle and a job waits there
 pub record Rechecked (v : Vocabulary) (c : ℕ) (a b : Moment) : Type 0 where

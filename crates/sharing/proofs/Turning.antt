@@ -110,7 +110,7 @@ module _ {X Y : Type 0} (v : Vocabulary) (k : Kind) (numbers : Y → Numbers) wh
       let on = goes_on a p b p (kept_framed f kept_same) s g in
       record {
         onward = record { kept = kept_framed f h; going = goes_on b p d q h t on; led = and_then (and_then nothing low) r };
-        held = λ x i n e. r.others x i n ∙ low.others x i n ∙ e;
+        held = λ x i n e. r.others x i n ∙ low.moved.others x i n ∙ e;
       }
 
   -- a take, what others do while the concept is held, and its giving back
@@ -130,5 +130,5 @@ module _ {X Y : Type 0} (v : Vocabulary) (k : Kind) (numbers : Y → Numbers) wh
         ];
         held = λ x l i.
             let n : x ≡ c → ⊥ = λ q. held≢queued ((content_of a).state x) i (ap (content_of a).state q ∙ taken.queued) in
-            back.held x l n (m.held x l (taken.others x l n ∙ i));
+            back.held x l n (m.held x l (taken.moved.others x l n ∙ i));
       }

@@ -18,7 +18,7 @@ give_back-requires g t c =
     let turns = turns_then v k numbers c.work.ensures step in
     let low = subst (λ n. c.in-Ok.lease.concept < n) c.requires.ready.counts.concepts taken.within in
     let n = turns.onward.going.ready.counts.concepts in
-    record { going = turns.onward.going; held = (omega arith, turns.held c.in-Ok.lease.concept low taken.held) }
+    record { going = turns.onward.going; held = (omega arith, turns.held c.in-Ok.lease.concept low taken.moved.here) }
 
 pub returns-in_default : goal.returns-in_default
 returns-in_default g t c =
