@@ -1,12 +1,10 @@
 -- What doing a job does, whatever the grades are: the relation of a step, before it is known that the board is sane.
-use Rattle.std.specs.Prelude.{◌≡◌, ℕ, ◌<◌, ◌⊎◌, length}
+use Rattle.std.specs.Prelude.{◌≡◌, ℕ, ◌<◌, length}
 use Rattle.grades.specs.Kinds.{Kind}
 use Rattle.terms.specs.Vocabularies.{Vocabulary}
-use Rattle.reasoning.specs.declared.Fact.{Fact}
 use Rattle.reasoning.specs.declared.Job.{Job}
-use Rattle.reasoning.specs.Derivations.{Within}
 use Rattle.saturation.specs.declared.State.TheVariants.{Idle}
-use Rattle.saturation.specs.Boards.{Moment, InLine, Stays}
+use Rattle.saturation.specs.Boards.{Moment, Stays}
 use Rattle.saturation.specs.Effects.{JobDone}
 use Rattle.board.specs.Raises.{Touched, NewCoded, Queues}
 

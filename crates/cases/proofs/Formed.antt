@@ -1,5 +1,6 @@
 -- A computed test that contents are those of a well formed vocabulary.
 use Rattle.std.proofs.Common.{◌≡◌, ℕ, ◌/◌, ◌%◌, ◌^◌, ◌<◌, ◌≤◌, Bool, true, cond, ◌&&◌, ltb, leb, List, length, get_or, subst, ⊎_elim, zero-lt-suc, arith}
+use Rattle.std.specs.List.{list_all}
 use native.Mathlib.Nat.{div-eq_of_lt, pow-le-pow_right}
 use Rattle.std.proofs.lemmas.List.{get_or_past}
 use Rattle.std.proofs.lemmas.Bool.{and_parts, eqb-true, ltb-true, leb-true, lt-ltb, le-ltb, cond-true, cond-false, cases_lt}
@@ -10,7 +11,7 @@ use Rattle.terms.specs.declared.records.Concept.TheVariants.{Atomic, Top, Conjun
 use Rattle.terms.specs.declared.records.Inclusion.{Inclusion}
 use Rattle.terms.specs.Contents.{Contents, bit, vocabulary_of}
 use Rattle.terms.specs.Vocabularies.{WellFormed}
-use Rattle.cases.proofs.Tests.{all_of, all_at}
+use Rattle.cases.proofs.Tests.{all_at}
 
 -- a word below 2 ^ n has no bit from n on
 low_bits : (w n k : ℕ) → w < 2 ^ n → bit w k ≡ true → k < n
@@ -44,7 +45,7 @@ lists_fit s =
     leb (length s.concepts) 1024
     && (leb (length s.inclusions) 4096
     && (every (length s.concepts) (λ c. operands_fit s.roles c (get_or s.concepts c Atomic))
-    && all_of (sides_fit (length s.concepts)) s.inclusions))
+    && list_all (sides_fit (length s.concepts)) s.inclusions))
 
 abbrev roles_fit : Contents → Bool
 roles_fit s =
@@ -86,7 +87,7 @@ formed_well s h =
     let halves = and_parts (lists_fit s) (roles_fit s) h in
     let l₁ = and_parts (leb n 1024) _ halves.0 in
     let l₂ = and_parts (leb (length s.inclusions) 4096) _ l₁.1 in
-    let l₃ = and_parts (every n fit) (all_of (sides_fit n) s.inclusions) l₂.1 in
+    let l₃ = and_parts (every n fit) (list_all (sides_fit n) s.inclusions) l₂.1 in
     let r₁ = and_parts (leb m 32) _ halves.1 in
     let r₂ = and_parts (every m (λ r. bit (get_or s.order r 0) r)) _ r₁.1 in
     let r₃ = and_parts (every m (λ r. every m (λ q. row_fits m s.order r q))) _ r₂.1 in

@@ -2,7 +2,7 @@
 use Rattle.std.proofs.Common.{◌≡◌, ℕ, suc, ◌<◌, Bool, true, false, cond, not, ◌&&◌, ◌||◌, eqb, ltb, List, [], ◌∷◌, map, length, get_or, Ok, Err, Decides, Result, sym, refl, ap, subst, subst₂, inl, inr, arith}
 use mathlib.Core.List.Memᴰ
 use mathlib.Core.List.{Memᴰ}
-use Rattle.std.specs.List.{range_with_len}
+use Rattle.std.specs.List.{list_all, range_with_len}
 use Rattle.std.proofs.lemmas.List.FromFn.{get_or-map-range_with_len}
 use Rattle.std.proofs.lemmas.Bool.{and_parts, and_from, or_cases, ltb-true, eqb-true, false≢true, not_from_false, cases_Bool}
 use Rattle.std.proofs.lemmas.Bool.Decides.{Decides-at, Decides-eqb, Decides-not, Decides-and}
@@ -33,7 +33,7 @@ use Rattle.cases.specs.Sheets.{reading, stated}
 use Rattle.cases.specs.Expectations.{KindName, Plain, Releases, Views, kind_of, Expectation, grade, listing, steps, mates, parents, words, unknown, Met}
 use Rattle.cases.specs.Cases.{Case, Holds, cases, WorkedCasesHold}
 use Rattle.cases.proofs.Rounds.{rounds_derive, rounds_tell}
-use Rattle.cases.proofs.Tests.{all_of, all_at, agree, agree_true}
+use Rattle.cases.proofs.Tests.{all_at, agree, agree_true}
 use Rattle.cases.proofs.Formed.{formed, formed_well}
 use Rattle.cases.proofs.Answers.{ascending, ascending_at, lists, lists_true}
 use Rattle.cases.proofs.Steps.{pairs, counts, steps_true}
@@ -51,13 +51,13 @@ precedes_test r s = ltb r.sub s.sub || (eqb r.sub s.sub && ltb r.sup s.sup)
 
 -- no row is of the two
 abbrev unlisted : List Row → ℕ → ℕ → Bool
-unlisted rows a d = all_of (λ (r : Row). not (eqb r.sub a && eqb r.sup d)) rows
+unlisted rows a d = list_all (λ (r : Row). not (eqb r.sub a && eqb r.sup d)) rows
 
 abbrev other_test : Vocabulary → Kind → (ℕ → List Fact) → List Row → ℕ → ℕ → Bool
 other_test v k facts rows a d = if_then (is_named v a && (is_named v d && (not (eqb a d) && unlisted rows a d))) (grade_test k facts a d k.none)
 
 abbrev listing_test : Vocabulary → Kind → (ℕ → List Fact) → List Row → Bool
-listing_test v k facts rows = ascending precedes_test rows && (all_of (row_test v k facts) rows && every (length v.concepts) (λ a. every (length v.concepts) (other_test v k facts rows a)))
+listing_test v k facts rows = ascending precedes_test rows && (list_all (row_test v k facts) rows && every (length v.concepts) (λ a. every (length v.concepts) (other_test v k facts rows a)))
 
 abbrev met_test : Vocabulary → Kind → (ℕ → List Fact) → Expectation → Bool
 met_test v k facts (grade a d code) = is_named v a && (ltb d (length v.concepts) && grade_test k facts a d code)
@@ -78,10 +78,10 @@ tables v k = map (λ p. rounds v (on_at k p) enough []) (range_with_len 0 k.poin
 
 -- the tables are closed, and every expectation is met
 abbrev tables_test : Vocabulary → Kind → List Expectation → List (List Fact) → Bool
-tables_test v k es ts = every k.points (λ p. closed v (on_at k p) (get_or ts p [])) && all_of (met_test v k (λ p. get_or ts p [])) es
+tables_test v k es ts = every k.points (λ p. closed v (on_at k p) (get_or ts p [])) && list_all (met_test v k (λ p. get_or ts p [])) es
 
 abbrev codes_fit : Kind → List Inclusion → Bool
-codes_fit k is = all_of (λ (i : Inclusion). ltb i.code k.codes) is
+codes_fit k is = list_all (λ (i : Inclusion). ltb i.code k.codes) is
 
 abbrev contents_test : Kind → List Expectation → Contents → Bool
 contents_test k es s = formed s && (codes_fit k s.inclusions && tables_test (vocabulary_of s) k es (tables (vocabulary_of s) k))
@@ -160,11 +160,11 @@ module _ (v : Vocabulary) (wf : WellFormed v) (k : Kind) (lawful : Lawful k) (fa
       n : ℕ
       n = length v.concepts
 
-      t : (ascending precedes_test rows ≡ true) × ((all_of (row_test v k facts) rows && every n (λ a. every n (other_test v k facts rows a))) ≡ true)
+      t : (ascending precedes_test rows ≡ true) × ((list_all (row_test v k facts) rows && every n (λ a. every n (other_test v k facts rows a))) ≡ true)
       t = and_parts (ascending precedes_test rows) _ h
 
-      u : (all_of (row_test v k facts) rows ≡ true) × (every n (λ a. every n (other_test v k facts rows a)) ≡ true)
-      u = and_parts (all_of (row_test v k facts) rows) _ t.1
+      u : (list_all (row_test v k facts) rows ≡ true) × (every n (λ a. every n (other_test v k facts rows a)) ≡ true)
+      u = and_parts (list_all (row_test v k facts) rows) _ t.1
 
       precedes : (r s : Row) → precedes_test r s ≡ true → Precedes r s
       precedes r s e = elim (or_cases (ltb r.sub s.sub) _ e) [
@@ -221,8 +221,8 @@ tables_true v wf k lawful es h e m = met_true v wf k lawful facts derives tells 
     facts : ℕ → List Fact
     facts p = get_or (tables v k) p []
 
-    t : (every k.points (λ p. closed v (on_at k p) (facts p)) ≡ true) × (all_of (met_test v k facts) es ≡ true)
-    t = and_parts (every k.points (λ p. closed v (on_at k p) (facts p))) (all_of (met_test v k facts) es) h
+    t : (every k.points (λ p. closed v (on_at k p) (facts p)) ≡ true) × (list_all (met_test v k facts) es ≡ true)
+    t = and_parts (every k.points (λ p. closed v (on_at k p) (facts p))) (list_all (met_test v k facts) es) h
 
     full : (p : ℕ) → p < k.points → closed v (on_at k p) (rounds v (on_at k p) enough []) ≡ true
     full p l = subst (λ (fs : List Fact). closed v (on_at k p) fs ≡ true) (table_at v k p l) (every_at k.points (λ p. closed v (on_at k p) (facts p)) t.0 p l)

@@ -1,6 +1,7 @@
 -- Saturation by rounds: what the rules draw from a list of facts joins the list, round by round, until a round adds nothing.
 use Rattle.std.specs.Prelude.{◌≡◌, ℕ, zero, suc, ◌<◌, Bool, true, false, cond, ◌&&◌, ◌||◌, List, [], ◌∷◌, ◌++◌, length, Decides, ◌==◌}
 use mathlib.Core.List.{Memᴰ}
+use Rattle.std.specs.List.{flat_map, list_any, list_all}
 use Rattle.terms.specs.declared.records.Concept.{Concept}
 use Rattle.terms.specs.declared.records.Concept.TheVariants.{Atomic, Top, Conjunction, Restriction}
 use Rattle.terms.specs.Vocabularies.{concept, Vocabulary, Named, WellFormed}
@@ -17,8 +18,7 @@ numbers (suc n) = n ∷ numbers n
 
 -- what each entry of a list gives, in one list
 abbrev pub each : {A B : Type 0} → List A → (A → List B) → List B
-each [] f = []
-each (x ∷ xs) f = f x ++ each xs f
+each xs f = flat_map f xs
 
 -- the list, if the test passes
 abbrev pub only : {A : Type 0} → Bool → List A → List A
@@ -34,8 +34,7 @@ same (implies s a b) (implies t c d) = s == t && (a == c && b == d)
 
 -- whether the fact stands in the list
 abbrev pub has : List Fact → Fact → Bool
-has [] f = false
-has (g ∷ gs) f = same f g || has gs f
+has facts f = list_any (same f) facts
 
 -- the start fact of a, if a is named
 abbrev pub start_of : ℕ → Concept → List Fact
@@ -96,8 +95,7 @@ conclusions v on facts = starts v ++ each facts (drawn v on facts)
 
 -- whether all of a list stand among the facts
 abbrev pub all_in : List Fact → List Fact → Bool
-all_in facts [] = true
-all_in facts (f ∷ fs) = has facts f && all_in facts fs
+all_in facts fs = list_all (has facts) fs
 
 -- whether the facts have all their conclusions
 abbrev pub closed : Vocabulary → (ℕ → Bool) → List Fact → Bool

@@ -1,5 +1,6 @@
 -- Vocabularies as the worked cases give them: sheets, line by line.
 use Rattle.std.specs.Prelude.{ℕ, ◌-◌, List, [], ◌∷◌, ◌++◌, length, replicate, codes, Result}
+use Rattle.std.specs.List.{flat_map}
 use Prim.Native.String.{String}
 use Rattle.terms.specs.Contents.{Contents}
 use Rattle.terms.specs.Counting.{room_for}
@@ -12,8 +13,7 @@ line_text l = codes l ++ (replicate (19 - length (codes l)) 32 ++ (10 ∷ []))
 
 -- the text of a sheet
 abbrev pub text : List String → List ℕ
-text [] = []
-text (l ∷ ls) = line_text l ++ text ls
+text ls = flat_map line_text ls
 
 -- how many lines are read, or the first fault, with all the room that there can be
 abbrev pub reading : List String → Result ℕ Fault

@@ -1,5 +1,6 @@
 -- The bytes of a listing.
 use Rattle.std.specs.Prelude.{◌≡◌, ℕ, ◌+◌, ◌≤◌, List, [], ◌∷◌, ◌++◌, length, take, drop}
+use Rattle.std.specs.List.{flat_map}
 use Rattle.terms.specs.Lent.{onto}
 use Rattle.sheet.specs.Columns.{six_columns}
 use Rattle.listing.specs.declared.page.Row.{Row}
@@ -18,8 +19,7 @@ put_at at bytes page = take at page ++ onto bytes (drop at page)
 
 -- the lines of the rows, one after the other
 abbrev pub page_of : List Row → List ℕ
-page_of [] = []
-page_of (r ∷ rs) = row_bytes r ++ page_of rs
+page_of rows = flat_map row_bytes rows
 
 -- behind the first bytes of the page stand the lines of the rows, up to the place that is answered, in at most so many bytes
 abbrev pub Wrote : List Row → ℕ → ℕ → ℕ → List ℕ → List ℕ → Type 0

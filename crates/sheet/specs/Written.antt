@@ -1,5 +1,6 @@
 -- The written form of entries, in the format's own words, and the laws of reading: what is read is exactly what is written so.
 use Rattle.std.specs.Prelude.{◌≡◌, ℕ, ◌≤◌, ◌↔◌, List, [], ◌∷◌, ◌++◌, length, Some, None, Ok, Result}
+use Rattle.std.specs.List.{flat_map}
 use Rattle.terms.specs.declared.records.Concept.TheVariants as concept
 use Rattle.terms.specs.declared.entry.Entry.{Entry}
 use Rattle.terms.specs.declared.entry.Entry.TheVariants as entry
@@ -48,8 +49,7 @@ written e = letter_of e ∷ (fields_for (numbers_in e) ++ (10 ∷ []))
 
 -- a text: line after line
 abbrev pub written_all : List Entry → List ℕ
-written_all [] = []
-written_all (e ∷ es) = written e ++ written_all es
+written_all es = flat_map written es
 
 -- no number of a list is above 65,535
 abbrev pub AllSmall : List ℕ → Type 0
