@@ -1,14 +1,14 @@
 -- Saturation by rounds: what the rules draw from a list of facts joins the list, round by round, until a round adds nothing.
-use Rattle.std.specs.Prelude.{◌≡◌, ℕ, zero, suc, ◌<◌, Bool, true, false, cond, ◌&&◌, ◌||◌, List, [], ◌∷◌, ◌++◌, length, Decides, ◌==◌}
+use Rattle.std.specs.Prelude.{◌≡◌, ℕ, zero, suc, Bool, true, false, cond, ◌&&◌, ◌||◌, List, [], ◌∷◌, ◌++◌, length, Decides, ◌==◌}
 use mathlib.Core.List.{Memᴰ}
 use Rattle.std.specs.List.{flat_map, list_any, list_all}
 use Rattle.terms.specs.declared.records.Concept.{Concept}
 use Rattle.terms.specs.declared.records.Concept.TheVariants.{Atomic, Top, Conjunction, Restriction}
-use Rattle.terms.specs.Vocabularies.{concept, Vocabulary, Named, WellFormed}
+use Rattle.terms.specs.Vocabularies.{concept, Vocabulary, WellFormed}
 use Rattle.reasoning.specs.declared.Fact.{Fact}
 use Rattle.reasoning.specs.declared.Fact.TheVariants.{Under as under, Implies as implies}
 use Rattle.reasoning.specs.declared.Job.{Job}
-use Rattle.reasoning.specs.Models.{Entails}
+use Rattle.reasoning.specs.Truth.{Tells}
 use Rattle.reasoning.specs.Derivations.{fact_of, Rule, Derivable}
 
 -- the numbers below n
@@ -130,4 +130,4 @@ RoundsDerive = (v : Vocabulary) → WellFormed v → (on : ℕ → Bool) (n : �
 -- if what rounds find has all its conclusions, it has a named concept under another just where every finite model says so
 abbrev pub RoundsTell : Type 0
 RoundsTell = (v : Vocabulary) → WellFormed v → (on : ℕ → Bool) (n : ℕ) → closed v on (rounds v on n []) ≡ true →
-    (a d : ℕ) → Named v a → d < length v.concepts → Decides (has (rounds v on n []) (under a d)) (Entails v on a d)
+    Tells v on (has (rounds v on n []))

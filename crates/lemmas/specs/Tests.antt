@@ -1,5 +1,5 @@
--- Tests made of tests.
-use Rattle.std.specs.Prelude.{ℕ, zero, suc, Bool, true, false, ◌&&◌}
+-- Tests made of tests, and tests that no number passes.
+use Rattle.std.specs.Prelude.{◌≡◌, ℕ, zero, suc, Bool, true, false, ◌&&◌}
 
 -- all numbers below n pass the test
 abbrev pub every : ℕ → (ℕ → Bool) → Bool
@@ -10,3 +10,7 @@ every (suc n) f = f n && every n f
 abbrev pub if_then : Bool → Bool → Bool
 if_then true c = c
 if_then false c = true
+
+-- no number passes the test
+abbrev pub Nowhere : (ℕ → Bool) → Type 0
+Nowhere f = (x : ℕ) → f x ≡ false

@@ -16,7 +16,11 @@ Complete = (v : Vocabulary) (on : ℕ → Bool) → WellFormed v → (table : Fa
 abbrev pub Least : Type 0
 Least = (v : Vocabulary) (on : ℕ → Bool) (table : Fact → Bool) → Closed v on table → (f : Fact) → Derivable v on f → table f ≡ true
 
--- a closed table of derivable facts has a named concept under another just where every finite model has it inside
+-- the table has a named concept under another just where every finite model has it inside
+abbrev pub Tells : Vocabulary → (ℕ → Bool) → (Fact → Bool) → Type 0
+Tells v on table = (a d : ℕ) → Named v a → d < length v.concepts → Decides (table (under a d)) (Entails v on a d)
+
+-- so does a closed table of derivable facts
 abbrev pub Exact : Type 0
 Exact = (v : Vocabulary) (on : ℕ → Bool) → WellFormed v → (table : Fact → Bool) → Closed v on table → ((f : Fact) → table f ≡ true → Derivable v on f) →
-    (a d : ℕ) → Named v a → d < length v.concepts → Decides (table (under a d)) (Entails v on a d)
+    Tells v on table

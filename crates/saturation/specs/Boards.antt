@@ -1,5 +1,5 @@
 -- What a board says: the found grade of each fact, the done grade of each job, each concept's state, and the count of steps.
-use Rattle.std.specs.Prelude.{◌≡◌, ℕ, ◌<◌, Bool, true, List, ◌≢◌}
+use Rattle.std.specs.Prelude.{◌≡◌, ℕ, ◌<◌, Bool, true, List, Option, MatchOption, ◌≢◌}
 use mathlib.Core.List.{Memᴰ}
 use Rattle.grades.specs.Kinds.{Kind, on_at}
 use Rattle.terms.specs.Vocabularies.{Vocabulary}
@@ -62,6 +62,10 @@ pub record First (v : Vocabulary) (b : Board) (c : ℕ) (j : Job) : Type 0 where
   pub at : JobAt v j c
   pub waits : Waits b j
   pub none_before : (k : Job) → JobAt v k c → Before k j → Rests b k
+
+-- the first job that waits at the concept, or none where none does
+abbrev pub FirstOrNone : Vocabulary → Board → ℕ → Option Job → Type 0
+FirstOrNone v b c r = MatchOption r (QuietAt v b c) (First v b c)
 
 -- with these done grades, a rule with the job among its premises draws the fact at the point
 abbrev pub Draws : Vocabulary → Kind → (Job → ℕ) → Job → Fact → ℕ → Type 0

@@ -1,5 +1,6 @@
 -- What a run does, by the takes, steps, lowerings and rechecks inside it. Events stand latest first.
 use Rattle.std.specs.Prelude.{◌≡◌, ℕ, ◌+◌, ◌-◌, ◌<◌, true, false, ◌⊎◌, List, [], ◌∷◌, ◌++◌, length, ◌≢◌}
+use Rattle.lemmas.specs.Tests.{Nowhere}
 use Rattle.grades.specs.Kinds.{Kind}
 use Rattle.terms.specs.Vocabularies.{Vocabulary}
 use Rattle.reasoning.specs.declared.Job.{Job}
@@ -18,7 +19,7 @@ pub data Exhausts (v : Vocabulary) (k : Kind) (c : ℕ) : ℕ → ℕ → List E
 
 -- the pile holds nothing
 abbrev pub EmptyPile : Moment → Type 0
-EmptyPile a = (x : ℕ) → a.pile x ≡ false
+EmptyPile a = Nowhere a.pile
 
 -- the number is not queued on this board of n concepts
 abbrev pub Unqueued : ℕ → Board → ℕ → Type 0

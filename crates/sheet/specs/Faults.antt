@@ -1,5 +1,6 @@
 -- What each layer makes of a fault of the layer below, and how a reading goes on where there is none.
 use Rattle.std.specs.Prelude.{ℕ, Ok, Err, Result}
+use Rattle.std.specs.Result.{result_map_both}
 use Rattle.rejections.specs.declared.Rejection.{Rejection}
 use Rattle.rejections.specs.declared.Rejection.TheVariants.{UnfinishedLine, BadField, UnknownName, BeyondLimit}
 use Rattle.terms.specs.declared.entry.Blame.{Blame}
@@ -17,13 +18,11 @@ and_then (Err e) f = Err e
 
 -- an error in the terms of the layer above
 abbrev pub raised : {A E F : Type 0} → (E → F) → Result A E → Result A F
-raised f (Ok a) = Ok a
-raised f (Err e) = Err (f e)
+raised f r = result_map_both (λ a. a) f r
 
 -- an error with its place
 abbrev pub placed : {A E : Type 0} → ℕ → Result A E → Result A (Located E)
-placed n (Ok a) = Ok a
-placed n (Err e) = Err (record { error = e; place = n })
+placed n r = raised (λ e. record { error = e; place = n }) r
 
 -- a fault of the line itself
 abbrev pub line_fault : Rejection → ℕ → LineFault

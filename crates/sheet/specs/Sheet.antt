@@ -1,5 +1,6 @@
 -- What a sheet says, line by line.
 use Rattle.std.specs.Prelude.{◌≡◌, ℕ, ◌+◌, ◌/◌, ◌%◌, cond, List, [], ◌∷◌, ◌++◌, length, Ok, Err, Result, ◌==◌}
+use Rattle.std.specs.List.{flat_map}
 use Rattle.std.specs.Simd.{first_chunks}
 use Rattle.terms.specs.declared.entry.Entry.{Entry}
 use Rattle.terms.specs.declared.tally.Room.{Room}
@@ -47,8 +48,7 @@ stated_by (Err x) = []
 
 -- the entries that lines state
 abbrev pub entries_of : List (List ℕ) → List Entry
-entries_of [] = []
-entries_of (l ∷ ls) = stated_by (line_of l) ++ entries_of ls
+entries_of ls = flat_map (λ l. stated_by (line_of l)) ls
 
 -- the contents that a text of faultless lines states
 abbrev pub contents_in : List ℕ → Contents

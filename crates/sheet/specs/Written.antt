@@ -1,6 +1,6 @@
 -- The written form of entries, in the format's own words, and the laws of reading: what is read is exactly what is written so.
 use Rattle.std.specs.Prelude.{◌≡◌, ℕ, ◌≤◌, ◌↔◌, List, [], ◌∷◌, ◌++◌, length, Some, None, Ok, Result}
-use Rattle.std.specs.List.{flat_map}
+use Rattle.std.specs.List.{flat_map, AllByRecursion}
 use Rattle.terms.specs.declared.records.Concept.TheVariants as concept
 use Rattle.terms.specs.declared.entry.Entry.{Entry}
 use Rattle.terms.specs.declared.entry.Entry.TheVariants as entry
@@ -53,8 +53,7 @@ written_all es = flat_map written es
 
 -- no number of a list is above 65,535
 abbrev pub AllSmall : List ℕ → Type 0
-AllSmall [] = Unit {0}
-AllSmall (n ∷ ns) = (n ≤ 65535) × AllSmall ns
+AllSmall ns = AllByRecursion (λ n. n ≤ 65535) ns
 
 -- no number of an entry is above 65,535
 abbrev pub Small : Entry → Type 0
@@ -62,8 +61,7 @@ Small e = AllSmall (numbers_in e)
 
 -- no number of any entry is above 65,535
 abbrev pub EachSmall : List Entry → Type 0
-EachSmall [] = Unit {0}
-EachSmall (e ∷ es) = Small e × EachSmall es
+EachSmall es = AllByRecursion Small es
 
 -- a text is the written form of entries that may each come where they stand
 pub record Writes (m : Room) (text : List ℕ) (es : List Entry) : Type 0 where

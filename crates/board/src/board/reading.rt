@@ -1,8 +1,8 @@
 //! Lending a board for reading: what it says can be read at either stage.
-ghost use Rattle.std.specs.Prelude.{◌≡◌, ◌<◌, true, false, length, MatchOption};
+ghost use Rattle.std.specs.Prelude.{◌≡◌, ◌<◌, true, false, length};
 ghost use Rattle.terms.specs.Views.{terms_of};
 ghost use Rattle.reasoning.specs.Derivations.{Fits, fact_of};
-ghost use Rattle.saturation.specs.Boards.{First, QuietAt, Quiet};
+ghost use Rattle.saturation.specs.Boards.{FirstOrNone, Quiet};
 ghost use Rattle.board.specs.Views.{content_of, read_of};
 ghost use Rattle.board.specs.Counts.{SameCounts};
 
@@ -62,7 +62,7 @@ impl<'a, K: GradeKind, S> Board<'a, K, S> {
     pub(crate) fn first(&self, terms: &Terms, c: u16) -> Option<Job>
         requires counts { SameCounts (terms_of terms.now) self.now.counts.concepts self.now.counts.roles }
         requires left { c < length (terms_of terms.now).concepts }
-        ensures { MatchOption result (QuietAt (terms_of terms.now) (content_of self.now) c) (First (terms_of terms.now) (content_of self.now) c) }
+        ensures { FirstOrNone (terms_of terms.now) (content_of self.now) c result }
     {
         self.reader().first(terms, c)
     }

@@ -1,15 +1,14 @@
 //! Doing a job.
-ghost use Rattle.std.specs.Prelude.{◌≡◌, ◌<◌, length, MatchOption};
+ghost use Rattle.std.specs.Prelude.{◌≡◌, ◌<◌, length};
 ghost use Rattle.terms.specs.Views.{terms_of};
 ghost use Rattle.reasoning.specs.Derivations.{Fits, fact_of};
 ghost use Rattle.saturation.specs.declared.State.TheVariants.{Held};
-ghost use Rattle.saturation.specs.Boards.{QuietAt};
-ghost use Rattle.board.specs.Views.{content_of, moment_of};
+ghost use Rattle.board.specs.Views.{content_of};
 ghost use Rattle.board.specs.Frames.{Kept};
 ghost use Rattle.board.specs.Raises.{Ready};
 ghost use Rattle.board.specs.JoinDraws.{ByJob};
 ghost use Rattle.board.specs.Sessions.{SameSession, SessionDrawn};
-ghost use Rattle.board.specs.Deeds.{Did};
+ghost use Rattle.board.specs.Deeds.{DidOrNone};
 
 use super::OpenBoard;
 use super::joins::{Implication, Link};
@@ -57,7 +56,7 @@ impl<'w, 'a, 't, K: GradeKind, P: Pile> Session<'w, 'a, 't, K, P> {
         requires held { (content_of self.old.board.now).state c ≡ Held }
         ensures same { SameSession self.old self.new }
         ensures kept { Kept P.Pile.numbers self.old.board.now self.old.pile.now self.new.board.now self.new.pile.now }
-        ensures work { MatchOption result (QuietAt (terms_of self.old.terms.now) (content_of self.old.board.now) c × (self.new.board.now ≡ self.old.board.now) × (self.new.pile.now ≡ self.old.pile.now)) (λ j. Did (terms_of self.old.terms.now) K.GradeKind.kind c j (moment_of P.Pile.numbers self.old.board.now self.old.pile.now) (moment_of P.Pile.numbers self.new.board.now self.new.pile.now)) }
+        ensures work { DidOrNone (terms_of self.old.terms.now) K.GradeKind.kind P.Pile.numbers c self.old.board.now self.old.pile.now self.new.board.now self.new.pile.now result }
     {
         let job = self.board.first(self.terms, c)?;
         let grade = self.board.found(fact_of(job));
@@ -81,7 +80,7 @@ impl<'a, K: GradeKind> OpenBoard<'a, K> {
         requires left { c < length (terms_of terms.now).concepts }
         requires held { (content_of self.old).state c ≡ Held }
         ensures kept { Kept P.Pile.numbers self.old pile.old self.new pile.new }
-        ensures work { MatchOption result (QuietAt (terms_of terms.now) (content_of self.old) c × (self.new ≡ self.old) × (pile.new ≡ pile.old)) (λ j. Did (terms_of terms.now) K.GradeKind.kind c j (moment_of P.Pile.numbers self.old pile.old) (moment_of P.Pile.numbers self.new pile.new)) }
+        ensures work { DidOrNone (terms_of terms.now) K.GradeKind.kind P.Pile.numbers c self.old pile.old self.new pile.new result }
     {
         let mut session = Session {
             board: self,

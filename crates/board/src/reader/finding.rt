@@ -3,7 +3,7 @@ ghost use Rattle.std.specs.Prelude.{◌≡◌, ℕ, ◌+◌, ◌<◌, ◌≤◌,
 ghost use Rattle.terms.specs.Views.{terms_of};
 ghost use Rattle.reasoning.specs.declared.Job.TheVariants.{Imply as imply};
 ghost use Rattle.reasoning.specs.Derivations.{Fits, fact_of};
-ghost use Rattle.saturation.specs.Boards.{Rests, Waits, First, QuietAt, Quiet};
+ghost use Rattle.saturation.specs.Boards.{Rests, Waits, FirstOrNone, Quiet};
 ghost use Rattle.board.specs.Counts.{SameCounts};
 ghost use Rattle.board.specs.Views.{read_of};
 ghost use Rattle.board.specs.Searches.{job_of, InRange, NoneBelow, FirstBelow, BestLink, NoImplications, FirstImplication, QuietWhere};
@@ -81,7 +81,7 @@ impl<'b> Reader<'b> {
     pub(crate) fn first(&self, terms: &Terms, c: u16) -> Option<Job>
         requires fitted { SameCounts (terms_of terms.now) self.now.counts.concepts self.now.counts.roles }
         requires left { c < length (terms_of terms.now).concepts }
-        ensures { MatchOption result (QuietAt (terms_of terms.now) (read_of self.now) c) (First (terms_of terms.now) (read_of self.now) c) }
+        ensures { FirstOrNone (terms_of terms.now) (read_of self.now) c result }
     {
         let board = Reading {
             reader: *self,
@@ -149,7 +149,7 @@ impl<'b> Reading<'b> {
     /// The first job that waits at `c`: own jobs come first, then link jobs, then implication jobs.
     fn first(&self, c: u16) -> Option<Job>
         requires { c < length (terms_of self.now.terms.now).concepts }
-        ensures { MatchOption result (QuietAt (terms_of self.now.terms.now) (read_of self.now.reader) c) (First (terms_of self.now.terms.now) (read_of self.now.reader) c) }
+        ensures { FirstOrNone (terms_of self.now.terms.now) (read_of self.now.reader) c result }
     {
         if let Some(job) = self.reader.first_on(Line::Owns(c)) {
             return Some(job);
