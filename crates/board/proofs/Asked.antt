@@ -1,68 +1,58 @@
 -- What the tests pick is the ascending list of exactly the mates or the parents.
-use Rattle.std.proofs.Common.{◌≡◌, ℕ, zero, suc, ◌<◌, Bool, true, false, cond, Decides, [], ◌∷◌, ◌++◌, length, sym, refl, ap, ◌∙◌, subst, inl, inr, arith}
+use Rattle.std.proofs.Common.{◌≡◌, ℕ, zero, suc, ◌+◌, ◌<◌, ◌≤◌, Bool, true, false, cond, Decides, List, ◌∷◌, length, sym, refl, ap, ◌∙◌, inl, inr, arith}
 use mathlib.Core.List.Memᴰ
 use mathlib.Core.List.{Memᴰ}
-use Rattle.std.proofs.lemmas.Bool.{cases_eq}
+use Rattle.std.specs.List.{range_with_len, filter}
+use Rattle.std.proofs.lemmas.Bool.{cases_eq, both_ways}
 use Rattle.grades.specs.Kinds.{Kind}
 use Rattle.terms.specs.Vocabularies.{Vocabulary, Named}
 use Rattle.saturation.specs.Boards.{Board}
-use Rattle.saturation.specs.Answers.{FoundUnder, Mate, Parent, Ascending, ListOf}
-use Rattle.saturation.proofs.Lists.{ascending_behind}
+use Rattle.saturation.specs.Answers.{FoundUnder, ListOf}
 use Rattle.saturation.proofs.Deciding.{mate_decides, parent_decides}
-use Rattle.board.specs.Asking.{picked, under_test, mate_test, parent_test}
+use Rattle.board.specs.declared.board.asking.Question.{Question}
+use Rattle.board.specs.declared.board.asking.Question.TheVariants.{Mates, Parents}
+use Rattle.board.specs.Asking.{picked, under_test, wanted_test}
+use Rattle.board.specs.Questions.{Wanted}
 
--- ---- the picked numbers
+-- one of the n numbers from a on that pass
+abbrev Passes : (ℕ → Bool) → ℕ → ℕ → ℕ → Type 0
+Passes f a n x = (a ≤ x) × (x < a + n) × (f x ≡ true)
 
--- the next number, where it passes
-mem_next : (x n : ℕ) (b : Bool) → Memᴰ x (cond b (n ∷ []) []) → (x ≡ n) × (b ≡ true)
-mem_next x n true m = (Memᴰ.eq_of_singleton m, refl)
-mem_next x n false m = absurd (Memᴰ.not-nil m)
-
-picked_each : (f : ℕ → Bool) (n x : ℕ) → Memᴰ x (picked f n) → (x < n) × (f x ≡ true)
-picked_each f zero x m = absurd (Memᴰ.not-nil m)
-picked_each f (suc n) x m = elim (Memᴰ.append_cases (picked f n) m) [
-  | inl t ↦ let h = picked_each f n x t in (omega arith, h.1)
-  | inr t ↦ let h = mem_next x n (f n) t in let e = h.0 in (omega arith, ap f e ∙ h.1)
-]
-
-picked_every : (f : ℕ → Bool) (n x : ℕ) → x < n → f x ≡ true → Memᴰ x (picked f n)
-picked_every f zero x l e = absurd (omega arith)
-picked_every f (suc n) x l e = elim (cases_eq x n) [
-  | inl q ↦ subst (λ (b : Bool). Memᴰ x (picked f n ++ cond b (n ∷ []) [])) (sym (ap f (sym q) ∙ e)) (subst (λ (y : ℕ). Memᴰ x (picked f n ++ y ∷ [])) q (Memᴰ.append_right (picked f n) (Memᴰ.head refl)))
-  | inr d ↦ Memᴰ.append_left (cond (f n) (n ∷ []) []) (picked_every f n x (omega arith) e)
-]
-
-picked_ascending : (f : ℕ → Bool) (n : ℕ) → Ascending (λ x y. x < y) (picked f n)
-picked_ascending f zero = tt
-picked_ascending f (suc n) = go (picked_ascending f n) (f n)
+filter_list : (f : ℕ → Bool) (a n : ℕ) → ListOf (Passes f a n) (filter f (range_with_len a n))
+filter_list f a zero = record { ascending = tt; each = λ x m. absurd (Memᴰ.not-nil m); every = λ x h. absurd (omega arith) }
+filter_list f a (suc n) = go (f a) refl (filter_list f (a + 1) n)
   where
-    go : Ascending (λ x y. x < y) (picked f n) → (b : Bool) → Ascending (λ x y. x < y) (picked f n ++ cond b (n ∷ []) [])
-    go a true =
-        ascending_behind (λ x y. x < y) (picked f n) (n ∷ []) a ((λ y m. absurd (Memᴰ.not-nil m)), tt)
-        (λ x y m t. let e = Memᴰ.eq_of_singleton t in let l = (picked_each f n x m).0 in omega arith)
-    go a false = ascending_behind (λ x y. x < y) (picked f n) [] a tt (λ x y m t. absurd (Memᴰ.not-nil t))
+    later : (x : ℕ) → Passes f (a + 1) n x → Passes f a (suc n) x
+    later x h = (omega arith, omega arith, h.2)
 
-picked_list : (f : ℕ → Bool) (n : ℕ) (P : ℕ → Type 0) → ((x : ℕ) → x < n → f x ≡ true → P x) → ((x : ℕ) → P x → (x < n) × (f x ≡ true)) → ListOf P (picked f n)
-picked_list f n P to from = record {
-  ascending = picked_ascending f n;
-  each = λ x m. let h = picked_each f n x m in to x h.0 h.1;
-  every = λ x p. let h = from x p in picked_every f n x h.0 h.1;
+    go : (b : Bool) {xs : List ℕ} → f a ≡ b → ListOf (Passes f (a + 1) n) xs → ListOf (Passes f a (suc n)) (cond b (a ∷ xs) xs)
+    go true e L = record {
+      ascending = ((λ y m. omega (arith, (L.each y m).0)), L.ascending);
+      each = λ x m. elim (Memᴰ.cases_cons m) [ inl q ↦ (omega arith, omega arith, ap f q ∙ e) | inr t ↦ later x (L.each x t) ];
+      every = λ x h. elim (cases_eq x a) [ inl q ↦ Memᴰ.head q | inr d ↦ Memᴰ.tail (L.every x (omega arith, omega arith, h.2)) ];
+    }
+    go false e L = record {
+      ascending = L.ascending;
+      each = λ x m. later x (L.each x m);
+      every = λ x h. elim (cases_eq x a) [ inl q ↦ absurd (both_ways (f a) e (ap f (sym q) ∙ h.2)) | inr d ↦ L.every x (omega arith, omega arith, h.2) ];
+    }
+
+picked_list : (f : ℕ → Bool) (n : ℕ) (P : ℕ → Type 0) → ((x : ℕ) → Decides (f x) (P x)) → ((x : ℕ) → P x → x < n) → ListOf P (picked f n)
+picked_list f n P told below = let L = filter_list f 0 n in record {
+  ascending = L.ascending;
+  each = λ x m. (told x).0 (L.each x m).2;
+  every = λ x p. L.every x (omega arith, omega (arith, below x p), (told x).1 p);
 }
 
--- ---- the tests
-
 module _ (v : Vocabulary) (k : Kind) (b : Board) (p a : ℕ) (i : Named v a) where
-  -- the test of "lies under" is what it tests
-  told : (c d : ℕ) → Named v c → Named v d → Decides (under_test k b p c d) (FoundUnder k b p c d)
-  told c d ic id = (λ e. e, λ e. e)
+  wanted_decides : (q : Question) (x : ℕ) → Decides (wanted_test q v (under_test k b p) a x) (Wanted q v (FoundUnder k b p) a x)
+  wanted_decides Mates x = mate_decides v (under_test k b p) (FoundUnder k b p) (λ _ _ _ _. (λ t. t, λ t. t)) a x i
+  wanted_decides Parents x = parent_decides v (under_test k b p) (FoundUnder k b p) (λ _ _ _ _. (λ t. t, λ t. t)) a x i
 
-  -- what is picked for the mates and for the parents of a
-  pub mates_list : ListOf (Mate v (FoundUnder k b p) a) (picked (mate_test v k b p a) (length v.concepts))
-  mates_list =
-      let same = λ (x : ℕ). mate_decides v (under_test k b p) (FoundUnder k b p) told a x i in
-      picked_list (mate_test v k b p a) (length v.concepts) (Mate v (FoundUnder k b p) a) (λ x l. (same x).0) (λ x m. (m.0.0, (same x).1 m))
+  wanted_below : (q : Question) (x : ℕ) → Wanted q v (FoundUnder k b p) a x → x < length v.concepts
+  wanted_below Mates x m = m.0.0
+  wanted_below Parents x m = m.0.0
 
-  pub parents_list : ListOf (Parent v (FoundUnder k b p) a) (picked (parent_test (length v.concepts) v k b p a) (length v.concepts))
-  parents_list =
-      let same = λ (x : ℕ). parent_decides v (under_test k b p) (FoundUnder k b p) told a x i in
-      picked_list (parent_test (length v.concepts) v k b p a) (length v.concepts) (Parent v (FoundUnder k b p) a) (λ x l. (same x).0) (λ x m. (m.0.0, (same x).1 m))
+  pub wanted_list : (q : Question) → b.concepts ≡ length v.concepts → ListOf (Wanted q v (FoundUnder k b p) a) (picked (wanted_test q v (under_test k b p) a) b.concepts)
+  wanted_list q e =
+      picked_list (wanted_test q v (under_test k b p) a) b.concepts (Wanted q v (FoundUnder k b p) a) (wanted_decides q) (λ x m. omega (arith, wanted_below q x m))

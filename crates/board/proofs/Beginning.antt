@@ -1,109 +1,99 @@
 -- Making a board: start facts one after another.
-use Rattle.std.proofs.Common.{◌≡◌, ℕ, ◌+◌, ◌<◌, true, ◌⊎◌, length, get_or, sym, refl, ◌∙◌, subst, inl, inr, ⊎_elim, arith}
-use Rattle.std.proofs.lemmas.Bool.{cases_eq, false≢true}
-use Rattle.rejections.specs.declared.Rejection.{Rejection}
-use Rattle.grades.specs.Kinds.{Kind, Lawful}
-use Rattle.piles.specs.Sets.{Numbers}
-use Rattle.terms.specs.declared.records.Concept.{Concept}
-use Rattle.terms.specs.declared.records.Concept.TheVariants.{Atomic, Top, Conjunction, Restriction}
+use Rattle.std.proofs.Common.{◌≡◌, ℕ, ◌+◌, ◌<◌, ◌≤◌, ◌⊎◌, length, sym, ◌∙◌, subst, inl, inr, ⊎_elim, refl, arith}
+use Rattle.std.proofs.lemmas.Bool.{cases_eq}
+use Rattle.grades.specs.Kinds.{Kind}
+use Rattle.piles.specs.Sets.{Empty}
+use Rattle.piles.specs.Shapes.{Shape, PutIn}
+use Rattle.piles.proofs.Eaches.{each_none, each_one, each_like, each_then}
 use Rattle.terms.specs.Vocabularies.{Vocabulary, Named}
 use Rattle.reasoning.specs.declared.Fact.{Fact}
-use Rattle.reasoning.specs.declared.Fact.TheVariants.{Under as under, Implies as implies}
-use Rattle.reasoning.specs.Derivations.{Within}
+use Rattle.reasoning.specs.declared.Fact.TheVariants.{Under as under}
+use Rattle.reasoning.specs.Derivations.{Within, fact_of}
 use Rattle.saturation.specs.declared.State.TheVariants.{Queued}
-use Rattle.saturation.specs.Boards.{Moment, Sane}
-use Rattle.saturation.specs.Effects.{Made}
-use Rattle.board.specs.Stages.{OpenBoard}
-use Rattle.board.specs.Views.{content_of, moment_of}
-use Rattle.board.specs.Frames.{Framed}
-use Rattle.board.specs.Moves.{Wrote, Nudged}
-use Rattle.board.specs.Making.{Begun}
-use Rattle.board.specs.Refusals.{MakeRejected, InOrder}
+use Rattle.saturation.specs.Boards.{Board, Moment, On}
+use Rattle.saturation.specs.Effects.{Made, Moved}
+use Rattle.saturation.proofs.Sizes.{sizes_then, goes_then, on}
+use Rattle.board.specs.Moves.{Wrote, woke, stayed}
+use Rattle.board.specs.Making.{Blank, Started, started, unnamed, Begun}
+use Rattle.board.proofs.Callers.{ready_then}
 
-module _ {X Y : Type 0} (v : Vocabulary) (k : Kind) (numbers : Y → Numbers) where
-  module _ (i : ℕ) (b c d : OpenBoard X) (p q : Y) (B : Begun v k numbers i b p) (I : Named v i) (sizes : Framed b c) (more : Framed c d)
-      (W : Wrote (length v.concepts) v.roles (under i i) k.all (content_of b) (content_of c))
-      (N : Nudged (length v.concepts) v.roles i (moment_of numbers c p) (moment_of numbers d q)) where
-    kept_found : (f : Fact) → Within v f → (f ≡ under i i → ⊥) → (content_of d).found f ≡ (content_of b).found f
-    kept_found f w ne = N.grades.found f w ∙ W.found f w ne
+-- a named concept below i + 1 is below i, or is i
+up_to : (v : Vocabulary) {i : ℕ} (a : ℕ) → (a < i + 1) × Named v a → ((a < i) × Named v a) ⊎ (a ≡ i)
+up_to v {i = i} a t = ⊎_elim inr (λ n. inl (let l = t.0 in omega arith, t.1)) (cases_eq a i)
 
-    kept_state : (x : ℕ) → x < length v.concepts → (x ≡ i → ⊥) → (content_of d).state x ≡ (content_of b).state x
-    kept_state x l ne = (N.others x l ne).0 ∙ W.state x l
+module _ {Y : Type 0} {v : Vocabulary} {k : Kind} {S : Shape Y} {p : Y} where
+  pub begun_none : {b : Board} → length v.concepts ≤ (S.numbers p).size → Blank v k b → Begun v k S p 0 (record { board = b; pile = p })
+  begun_none {b = b} l B = record {
+    ready = record { goes = B.goes; wide = omega (arith, B.goes.concepts) };
+    steps = B.steps;
+    started = λ a h. absurd (omega arith);
+    unfound = λ f w n. B.found f (on B.goes f w);
+    undone = λ j w. B.done j (on B.goes (fact_of j) w);
+    queued = λ a h. absurd (omega arith);
+    idle = λ c h n. B.state c (omega (arith, B.goes.concepts));
+    puts = each_none (λ a t. let h = t.0 in omega arith);
+  }
 
-    now_found : (content_of d).found (under i i) ≡ k.all
-    now_found = N.grades.found (under i i) (I.0, I.0) ∙ W.here
+  module _ {i : ℕ} {m : Moment Y} (B : Begun v k S p i m) where
+    -- the start fact of i, which is named
+    module _ {b : Board} {n : Moment Y} (I : Named v i) (W : Wrote (under i i) k.all m.board b) (M : Moved i Queued b n.board) (P : PutIn S i m.pile n.pile) where
+      on_b : (f : Fact) → Within v f → On b f
+      on_b f w = on (goes_then B.ready.goes W.sizes) f w
 
-    now_queued : ((content_of d).state i ≡ Queued) × ((numbers q).holds i ≡ true)
-    now_queued = N.here (W.state i I.0 ∙ B.idle i I.0 (λ h. absurd (omega arith)))
+      kept_found : (f : Fact) → Within v f → (f ≡ under i i → ⊥) → n.board.found f ≡ m.board.found f
+      kept_found f w ne = M.grades.found f (on_b f w) ∙ W.found f (on B.ready.goes f w) ne
 
-    other_start : (a : ℕ) → (a ≡ i → ⊥) → under a a ≡ under i i → ⊥
-    other_start a ne e = ne (cc)
+      kept_state : (x : ℕ) → x < length v.concepts → (x ≡ i → ⊥) → n.board.state x ≡ m.board.state x
+      kept_state x l ne = let h : x < m.board.concepts = omega (arith, B.ready.goes.concepts) in M.others x (omega (arith, W.sizes.concepts)) ne ∙ W.state x h
 
-    pub begun_more : (numbers q).size ≡ (numbers p).size → Begun v k numbers (i + 1) d q
-    begun_more r = record {
-      ready = record {
-        counts = record { concepts = more.concepts ∙ sizes.concepts ∙ B.ready.counts.concepts; roles = more.roles ∙ sizes.roles ∙ B.ready.counts.roles };
-        wide = omega (arith, more.concepts, sizes.concepts, B.ready.wide);
-      };
-      steps = N.grades.steps ∙ W.steps ∙ B.steps;
-      started = λ a l at. ⊎_elim (λ e. subst (λ u. (content_of d).found (under u u) ≡ k.all) (sym e) now_found) (λ ne. kept_found (under a a) (at.0, at.0) (other_start a ne) ∙ B.started a (omega arith) at) (cases_eq a i);
-      unfound = λ f w n. kept_found f w (n i (omega arith) I) ∙ B.unfound f w (λ a l. n a (omega arith));
-      undone = λ j w. N.grades.done j w ∙ W.done j w ∙ B.undone j w;
-      queued = λ a l at. ⊎_elim (λ e. subst (λ u. (content_of d).state u ≡ Queued) (sym e) now_queued.0) (λ ne. kept_state a at.0 ne ∙ B.queued a (omega arith) at) (cases_eq a i);
-      idle = λ x l n. kept_state x l (λ e. n (omega arith) (subst (λ u. Named v u) (sym e) I)) ∙ B.idle x l (λ h. n (omega arith));
-      put = λ a l at. ⊎_elim (λ e. subst (λ u. (numbers q).holds u ≡ true) (sym e) now_queued.1) (λ ne. N.rest a ne ∙ B.put a (omega arith) at) (cases_eq a i);
-      nothing_else = λ x n. N.rest x (λ e. n (omega arith) (subst (λ u. Named v u) (sym e) I)) ∙ B.nothing_else x (λ h. n (omega arith));
+      begun_named : Begun v k S p (i + 1) n
+      begun_named = record {
+        ready = ready_then B.ready (sizes_then W.sizes M.grades.sizes) P.set.0;
+        steps = M.grades.steps ∙ W.steps ∙ B.steps;
+        started = λ a l N. ⊎_elim
+            (λ t. kept_found (under a a) (N.0, N.0) (λ e. let q : a ≡ i = cc in let h = t.0 in omega arith) ∙ B.started a t.0 N)
+            (λ e. subst (λ u. n.board.found (under u u) ≡ k.all) (sym e) (M.grades.found (under i i) (on_b (under i i) (I.0, I.0)) ∙ W.here))
+            (up_to v a (l, N));
+        unfound = λ f w none. kept_found f w (none i (omega arith) I) ∙ B.unfound f w (λ a l. none a (omega arith));
+        undone = λ j w. M.grades.done j (on_b (fact_of j) w) ∙ W.done j (on B.ready.goes (fact_of j) w) ∙ B.undone j w;
+        queued = λ a l N. ⊎_elim
+            (λ t. kept_state a N.0 (λ e. let h = t.0 in omega arith) ∙ B.queued a t.0 N)
+            (λ e. subst (λ u. n.board.state u ≡ Queued) (sym e) M.here)
+            (up_to v a (l, N));
+        idle = λ x l none. kept_state x l (λ e. none (omega arith) (subst (λ u. Named v u) (sym e) I)) ∙ B.idle x l (λ h. none (omega arith));
+        puts = each_then {Q = λ x. x ≡ i} (λ x t e. let h = t.0 in omega arith) (λ x. ⊎_elim (λ t. (let h = t.0 in omega arith, t.1)) (λ e. (omega arith, subst (λ u. Named v u) (sym e) I))) (up_to v) B.puts (each_one refl (λ x e. e) P);
+      }
+
+    pub begun_more : {n : Moment Y} → i < length v.concepts → Started v k S i m n → Begun v k S p (i + 1) n
+    begun_more l (started {b = b} I W (woke _ M P)) = begun_named I W M P
+    begun_more l (started {b = b} I W (stayed busy _)) = absurd (busy (W.state i (omega (arith, B.ready.goes.concepts)) ∙ B.idle i l (λ h. absurd (omega arith))))
+    begun_more l (unnamed none e) =
+        subst (λ u. Begun v k S p (i + 1) u) (sym e) (record {
+          ready = B.ready;
+          steps = B.steps;
+          started = λ a h N. B.started a (below a h N) N;
+          unfound = λ f w n. B.unfound f w (λ a h. n a (omega arith));
+          undone = B.undone;
+          queued = λ a h N. B.queued a (below a h N) N;
+          idle = λ x h n. B.idle x h (λ u. n (omega arith));
+          puts = each_like (λ x t. (let h = t.0 in omega arith, t.1)) (λ x t. (below x t.0 t.1, t.1)) B.puts;
+        })
+      where
+        below : (a : ℕ) → a < i + 1 → Named v a → a < i
+        below a h N = ⊎_elim (λ t. t.0) (λ e. absurd (none (subst (λ u. Named v u) e N))) (up_to v a (h, N))
+
+    pub begun_all : i ≡ length v.concepts → Empty (S.numbers p) → Made v k S p m
+    begun_all e E = record {
+      goes = B.ready.goes;
+      started = λ a N. B.started a (all a N) N;
+      unfound = λ f w n. B.unfound f w (λ a l N. n a N);
+      undone = B.undone;
+      queued = λ a N. B.queued a (all a N) N;
+      idle = λ c l n. B.idle c l (λ _. n);
+      no_steps = B.steps;
+      empty = E;
+      puts = each_like (λ x t. t.1) (λ x N. (all x N, N)) B.puts;
     }
-
-  pub begun_all : (i : ℕ) (b : OpenBoard X) (p : Y) → i ≡ length v.concepts → Begun v k numbers i b p → Made v k (moment_of numbers b p)
-  begun_all i b p e B = record {
-    started = λ a at. B.started a (under_all a at) at;
-    unfound = λ f w n. B.unfound f w (λ a l at. n a at);
-    undone = B.undone;
-    queued = λ a at. B.queued a (under_all a at) at;
-    idle = λ c l n. B.idle c l (λ _. n);
-    put = λ a at. B.put a (under_all a at) at;
-    nothing_else = λ c n. B.nothing_else c (λ _. n);
-    no_steps = B.steps;
-  }
-    where
-      under_all : (a : ℕ) → Named v a → a < i
-      under_all a at = let l = at.0 in omega arith
-
--- whether a concept is named can be told
-shape : (κ : Concept) → (κ ≡ Atomic) ⊎ (κ ≡ Atomic → ⊥)
-shape Atomic = inl refl
-shape Top = inr (λ q. let z : ◌≡◌ {A = ℕ} 0 1 = cc in omega arith)
-shape (Conjunction d e) = inr (λ q. let z : ◌≡◌ {A = ℕ} 0 1 = cc in omega arith)
-shape (Restriction r d) = inr (λ q. let z : ◌≡◌ {A = ℕ} 0 1 = cc in omega arith)
-
-named : (v : Vocabulary) (c : ℕ) → c < length v.concepts → Named v c ⊎ (Named v c → ⊥)
-named v c l = ⊎_elim (λ q. inl (l, q)) (λ n. inr (λ i. n i.1)) (shape (get_or v.concepts c Atomic))
-
--- a board that was just made is sane
-module _ (v : Vocabulary) (k : Kind) (L : Lawful k) (m : Moment) (M : Made v k m) where
-  none_code : (f : Fact) → Within v f → ((a : ℕ) → Named v a → f ≡ under a a → ⊥) → m.board.found f < k.codes
-  none_code f w n = subst (λ u. u < k.codes) (sym (M.unfound f w n)) L.none_code
-
-  found_code : (f : Fact) → Within v f → m.board.found f < k.codes
-  found_code (under c d) w =
-      ⊎_elim
-      (λ e. ⊎_elim (λ N. subst (λ u. m.board.found (under c u) < k.codes) e (subst (λ u. u < k.codes) (sym (M.started c N)) L.all_code))
-      (λ n. none_code (under c d) w (λ a A q. let p : a ≡ c = cc in n (subst (λ u. Named v u) p A))) (named v c w.0))
-      (λ ne. none_code (under c d) w (λ a A q. let p : c ≡ a = cc in let r : d ≡ a = cc in ne (p ∙ sym r)))
-      (cases_eq c d)
-  found_code (implies s c e) w = none_code (implies s c e) w (λ a A q. let z : ◌≡◌ {A = ℕ} 0 1 = cc in omega arith)
-
-  pub made_sane : Sane (length v.concepts) v.roles k m.board
-  made_sane = record {
-    found = found_code;
-    done = λ j w. subst (λ u. u < k.codes) (sym (M.undone j w)) L.none_code;
-    below = λ j p w l t. absurd (false≢true (sym (L.none_holds p) ∙ subst (λ u. k.holds u p ≡ true) (M.undone j w) t));
-  }
-
--- where there is a reason to reject, a making is not in order
-pub not_in_order : {v : Vocabulary} {k : Kind} {words : ℕ} {s : Numbers} {e : Rejection} → InOrder v k words s → MakeRejected v k words s e → ⊥
-not_in_order O (MakeRejected.foreign_code {i = i} m l) = let h = O.coded i m in omega arith
-not_in_order O (MakeRejected.too_few_words C l) = let h = O.enough in omega arith
-not_in_order O (MakeRejected.unfit_pile C r (inl l)) = let h = O.wide in omega arith
-not_in_order {s = s} O (MakeRejected.unfit_pile C r (inr t)) = false≢true (sym (O.empty t.0) ∙ t.1)
+      where
+        all : (a : ℕ) → Named v a → a < i
+        all a N = let l = N.0 in omega arith

@@ -1,38 +1,28 @@
 -- Looking once more: the concept is nudged, or nothing waits there.
-use Rattle.std.proofs.Common.{◌≡◌, ℕ, ◌<◌, length, refl, subst₂, ⊎_elim}
+use Rattle.std.proofs.Common.{ℕ, ◌<◌, sym, refl, subst}
+use Rattle.piles.specs.Shapes.{Shape}
 use Rattle.terms.specs.Vocabularies.{Vocabulary}
 use Rattle.reasoning.specs.declared.Job.{Job}
-use Rattle.saturation.specs.Boards.{Moment, First, QuietAt}
+use Rattle.saturation.specs.Boards.{Moment, First, QuietAt, Missed}
 use Rattle.saturation.specs.Effects.{Rechecked}
-use Rattle.saturation.specs.declared.State.{State}
-use Rattle.saturation.specs.declared.State.TheVariants.{Idle, Queued, Held}
-use Rattle.board.specs.declared.board.states.Change.TheVariants.{Raise, Recheck}
-use Rattle.board.specs.Moves.{after, Nudged}
+use Rattle.board.specs.Moves.{Nudged, woke, stayed}
+use Rattle.board.proofs.Waking.{put_none, nudged_puts, same_same}
 
-pub rechecked_queued : (v : Vocabulary) (n m c : ℕ) (j : Job) (a b : Moment) → n ≡ length v.concepts → m ≡ v.roles → Nudged n m c a b → c < length v.concepts → First v a.board c j → Rechecked v c a b
-rechecked_queued v n m c j a b en em N l F =
-    let N' : Nudged (length v.concepts) v.roles c a b = subst₂ (λ x y. Nudged x y c a b) en em N in
-    record {
-      within = l;
-      queues = λ t. N'.here t.0;
-      leaves = λ none. ⊎_elim (λ s. s) (λ w. absurd (none (w.0, (j, F.at, F.waits)))) N'.there;
-      others = λ x h ne. (N'.others x h ne).0;
-      rest = N'.rest;
-      grades = N'.grades;
-    }
+module _ {Y : Type 0} {v : Vocabulary} {S : Shape Y} {c : ℕ} {a : Moment Y} (l : c < a.board.concepts) where
+  -- it is not idle, or no job waits there
+  rechecked_same : ¬ Missed v a.board c → Rechecked v S c a a
+  rechecked_same n = record { within = l; wakes = λ t. absurd (n t); leaves = λ _. refl; others = λ _ _ _. refl; grades = same_same; puts = put_none S a }
 
-pub rechecked_quiet : (v : Vocabulary) (c : ℕ) (a : Moment) → c < length v.concepts → QuietAt v a.board c → Rechecked v c a a
-rechecked_quiet v c a l q = record {
-  within = l;
-  queues = λ t. absurd (t.1.2 (q t.1.0 t.1.1));
-  leaves = λ _. (refl, refl);
-  others = λ x h ne. refl;
-  rest = λ x ne. refl;
-  grades = record { found = λ f w. refl; done = λ j w. refl; steps = refl };
-}
+  pub rechecked_quiet : QuietAt v a.board c → Rechecked v S c a a
+  rechecked_quiet q = rechecked_same (λ t. t.1.2 (q t.1.0 t.1.1))
 
--- a recheck changes states as a raise does
-pub rechecks_wake : (s : State) → after Recheck s ≡ after Raise s
-rechecks_wake Idle = refl
-rechecks_wake Queued = refl
-rechecks_wake Held = refl
+  pub rechecked_queued : {j : Job} {b : Moment Y} → First v a.board c j → Nudged S c a b → Rechecked v S c a b
+  rechecked_queued {j = j} {b = b} F (woke i m p) = record {
+    within = l;
+    wakes = λ _. m.here;
+    leaves = λ n. absurd (n (i, (j, F.at, F.waits)));
+    others = m.others;
+    grades = m.grades;
+    puts = nudged_puts S c a b l (woke i m p);
+  }
+  rechecked_queued F (stayed n e) = subst (λ u. Rechecked v S c a u) (sym e) (rechecked_same (λ t. n t.0))

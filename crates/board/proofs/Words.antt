@@ -1,14 +1,13 @@
 -- What a write of one word changes of what the words say.
-use Rattle.std.proofs.Common.{◌≡◌, ℕ, ◌+◌, ◌*◌, ◌<◌, ◌≤◌, List, length, get_or, set, sym, refl, ap, ◌∙◌, arith, get_or-set_other, get_or-set_same}
+use Rattle.std.proofs.Common.{◌≡◌, ℕ, ◌+◌, ◌*◌, ◌<◌, ◌≤◌, List, length, get_or, set, sym, refl, ap, ◌∙◌, subst, arith, get_or-set_other, get_or-set_same}
 use Rattle.reasoning.specs.Derivations.{fact_of, Fits}
 use Rattle.reasoning.specs.declared.Fact.{Fact}
 use Rattle.reasoning.specs.declared.Job.{Job}
-use Rattle.saturation.specs.Effects.{SameGrades}
 use Rattle.reasoning.specs.declared.Fact.TheVariants.{Under as under, Implies as implies}
 use Rattle.reasoning.specs.declared.Job.TheVariants.{Own as own, Link as link, Imply as imply}
-use Rattle.board.specs.Layout.{words_needed}
+use Rattle.board.specs.Layout.{words_needed, StateWords}
 use Rattle.board.specs.Moves.{Wrote, Marked}
-use Rattle.board.specs.Views.{row, column, plane, done_plane, spot, mark, view_of, state_of}
+use Rattle.board.specs.Words.{row, column, plane, done_plane, spot, mark, view_of, state_of}
 use Rattle.board.proofs.Places.{place_plane, place_inside}
 
 row_fits : (n m : ℕ) (f : Fact) → Fits n m f → (row f < n) × (column f < n)
@@ -43,8 +42,9 @@ spot_mark n m f j F J e =
     let t = place_plane n (plane f) (row f) (column f) (done_plane m j) (row (fact_of j)) (column (fact_of j)) F'.0 F'.1 J'.0 J'.1 e in
     apart n m f j F t.0
 
-pub wrote_word : (w : List ℕ) (n m s : ℕ) (f : Fact) (g i : ℕ) → i ≡ spot n f → i < length w → n ≤ i → Fits n m f → Wrote n m f g (view_of w n m s) (view_of (set w i g) n m s)
+pub wrote_word : (w : List ℕ) (n m s : ℕ) (f : Fact) (g i : ℕ) → i ≡ spot n f → i < length w → n ≤ i → Fits n m f → Wrote f g (view_of w n m s) (view_of (set w i g) n m s)
 wrote_word w n m s f g i e l up F = record {
+  sizes = record { concepts = refl; roles = refl };
   here = ap (λ x. get_or (set w i g) x 0) (sym e) ∙ get_or-set_same w i g 0 l;
   found = λ h H ne. get_or-set_other w i (spot n h) g 0 (λ q. ne (spot_one n m h f H F (q ∙ e)));
   done = λ j J. get_or-set_other w i (mark n m j) g 0 (λ q. spot_mark n m f j F J (sym e ∙ sym q));
@@ -70,28 +70,19 @@ mark_one n m i j I J e =
     let t = place_plane n (done_plane m i) (row (fact_of i)) (column (fact_of i)) (done_plane m j) (row (fact_of j)) (column (fact_of j)) I'.0 I'.1 J'.0 J'.1 e in
     same_job m i j t.0 t.1 t.2
 
-pub marked_word : (w : List ℕ) (n m s : ℕ) (j : Job) (g i : ℕ) → i ≡ mark n m j → i < length w → n ≤ i → Fits n m (fact_of j) → Marked n m j g (view_of w n m s) (view_of (set w i g) n m s)
-marked_word w n m s j g i e l up J = record {
-  here = ap (λ x. get_or (set w i g) x 0) (sym e) ∙ get_or-set_same w i g 0 l;
+pub marked_word : (w : List ℕ) (n m s : ℕ) (j : Job) (g i : ℕ) → g ≡ get_or w (spot n (fact_of j)) 0 → i ≡ mark n m j → i < length w → n ≤ i → Fits n m (fact_of j) → Marked j (view_of w n m s) (view_of (set w i g) n m s)
+marked_word w n m s j g i r e l up J = record {
+  sizes = record { concepts = refl; roles = refl };
+  here = ap (λ x. get_or (set w i g) x 0) (sym e) ∙ get_or-set_same w i g 0 l ∙ r;
   found = λ h H. get_or-set_other w i (spot n h) g 0 (λ q. spot_mark n m h j H J (q ∙ e));
   done = λ h H ne. get_or-set_other w i (mark n m h) g 0 (λ q. ne (mark_one n m h j H J (q ∙ e)));
   state = λ x h. ap state_of (get_or-set_other w i x g 0 (omega arith));
   steps = refl;
 }
 
--- a write of a state leaves the grades
-pub state_word : (w : List ℕ) (n m s c g : ℕ) → c < n → SameGrades n m (view_of w n m s) (view_of (set w c g) n m s)
-state_word w n m s c g l = record {
-  found = λ h H. get_or-set_other w c (spot n h) g 0 (omega arith);
-  done = λ j J. get_or-set_other w c (mark n m j) g 0 (omega arith);
-  steps = refl;
-}
-
-pub state_here : (w : List ℕ) (c g : ℕ) → c < length w → state_of (get_or (set w c g) c 0) ≡ state_of g
-state_here w c g l = ap state_of (get_or-set_same w c g 0 l)
-
-pub state_other : (w : List ℕ) (c g x : ℕ) → (x ≡ c → ⊥) → state_of (get_or (set w c g) x 0) ≡ state_of (get_or w x 0)
-state_other w c g x ne = ap state_of (get_or-set_other w c x g 0 ne)
+-- a write of a grade leaves the states
+pub states_kept : (w : List ℕ) (n i g : ℕ) → n ≤ i → StateWords n w → StateWords n (set w i g)
+states_kept w n i g up S x h = subst (λ u. u ≤ 2) (sym (get_or-set_other w i x g 0 (omega arith))) (S x h)
 
 plane_inside : (n m : ℕ) (f : Fact) → Fits n m f → plane f < 3 + 2 * m
 plane_inside n m (under c d) h = omega arith

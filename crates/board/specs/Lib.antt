@@ -1,18 +1,17 @@
+-- What users read: views of a board, what its calls answer and do, when they are rejected, and what questions answer.
 pub mod Layout
-pub mod Stages
-pub mod Counts
+pub mod Words
 pub mod Views
-pub mod Frames
+pub mod Rejections
+pub mod Calls
+pub mod Questions
+-- The steps inside the calls.
 pub mod Moves
 pub mod Raises
 pub mod OwnDraws
 pub mod JoinDraws
 pub mod Searches
 pub mod Sessions
-pub mod Deeds
 pub mod Making
-pub mod Refusals
-pub mod Calls
 pub mod Running
 pub mod Asking
-pub mod Questions

@@ -13,44 +13,52 @@ use Rattle.reasoning.specs.declared.Job.TheVariants.{Own as own}
 use Rattle.board.specs.declared.board.own.Known.{Known}
 use Rattle.board.specs.Raises.{Gains}
 
--- by one of the numbers below n
-abbrev pub AnyBelow : ℕ → (ℕ → Fact → ℕ → Type 0) → Fact → ℕ → Type 0
-AnyBelow n P f p = (i : ℕ) × (i < n) × P i f p
+-- what is drawn from a vocabulary, in a kind and with these done grades: which facts, at which points
+abbrev pub Drawing : Type 1
+Drawing = Vocabulary → Kind → (Job → ℕ) → Fact → ℕ → Type 0
 
--- by an inclusion of the right concept
-abbrev pub ByInclusion : Kind → Known → Inclusion → Fact → ℕ → Type 0
-ByInclusion k o i f p = (i.sub ≡ o.right) × Gains k (under o.left i.sup) (k.meet o.grade i.code) f p
+-- by the one or by the other
+abbrev pub Either : Drawing → Drawing → Drawing
+Either P Q v k done f p = P v k done f p ⊎ Q v k done f p
+
+-- by one of the numbers below n
+abbrev pub AnyBelow : (Vocabulary → ℕ) → (ℕ → Drawing) → Drawing
+AnyBelow n P v k done f p = (i : ℕ) × (i < n v) × P i v k done f p
+
+-- the rule stated: by an inclusion of the right concept
+abbrev pub ByInclusion : Known → Inclusion → Drawing
+ByInclusion o i v k done f p = (i.sub ≡ o.right) × Gains k (under o.left i.sup) (k.meet o.grade i.code) f p
 
 -- by the inclusion with the number i
-abbrev pub ByStated : Vocabulary → Kind → Known → ℕ → Fact → ℕ → Type 0
-ByStated v k o i f p = ByInclusion k o (slice_index_or v.inclusions i blank) f p
+abbrev pub ByStated : Known → ℕ → Drawing
+ByStated o i v = ByInclusion o (slice_index_or v.inclusions i blank) v
 
--- by the conjunction x of near and far, where near is the right concept
-abbrev pub ByPair : Kind → (Job → ℕ) → Known → ℕ → ℕ → ℕ → Fact → ℕ → Type 0
-ByPair k done o x near far f p = (near ≡ o.right) × Gains k (under o.left x) (k.meet o.grade (done (own o.left far))) f p
+-- the rule both: by the conjunction x of near and far, where near is the right concept
+abbrev pub ByBoth : Known → ℕ → ℕ → ℕ → Drawing
+ByBoth o x near far v k done f p = (near ≡ o.right) × Gains k (under o.left x) (k.meet o.grade (done (own o.left far))) f p
 
--- by the concept x, which is what is stated
-abbrev pub ByShape : Kind → (Job → ℕ) → Known → ℕ → Concept → Fact → ℕ → Type 0
-ByShape k done o x Atomic f p = ⊥
-ByShape k done o x Top f p = (o.left ≡ o.right) × Gains k (under o.left x) o.grade f p
-ByShape k done o x (Conjunction d e) f p = ByPair k done o x d e f p ⊎ ByPair k done o x e d f p
-ByShape k done o x (Restriction s d) f p = (d ≡ o.right) × Gains k (implies s o.left x) o.grade f p
+-- the rules top, both and some: by the concept x, which is what is stated
+abbrev pub ByForm : Known → ℕ → Concept → Drawing
+ByForm o x Atomic v k done f p = ⊥
+ByForm o x Top v k done f p = (o.left ≡ o.right) × Gains k (under o.left x) o.grade f p
+ByForm o x (Conjunction d e) v k done f p = ByBoth o x d e v k done f p ⊎ ByBoth o x e d v k done f p
+ByForm o x (Restriction s d) v k done f p = (d ≡ o.right) × Gains k (implies s o.left x) o.grade f p
 
 -- by the concept with the number x
-abbrev pub ByConcept : Vocabulary → Kind → (Job → ℕ) → Known → ℕ → Fact → ℕ → Type 0
-ByConcept v k done o x f p = ByShape k done o x (concept v x) f p
+abbrev pub ByConcept : Known → ℕ → Drawing
+ByConcept o x v = ByForm o x (concept v x) v
 
--- by what the right concept is
-abbrev pub ByPart : Kind → Known → Concept → Fact → ℕ → Type 0
-ByPart k o Atomic f p = ⊥
-ByPart k o Top f p = ⊥
-ByPart k o (Conjunction d e) f p = Gains k (under o.left d) o.grade f p ⊎ Gains k (under o.left e) o.grade f p
-ByPart k o (Restriction s d) f p = Gains k (under d d) o.grade f p
+-- the rules left, right and filler: by what the right concept is
+abbrev pub ByOperand : Known → Concept → Drawing
+ByOperand o Atomic v k done f p = ⊥
+ByOperand o Top v k done f p = ⊥
+ByOperand o (Conjunction d e) v k done f p = Gains k (under o.left d) o.grade f p ⊎ Gains k (under o.left e) o.grade f p
+ByOperand o (Restriction s d) v k done f p = Gains k (under d d) o.grade f p
 
--- by what the right concept is made of
-abbrev pub ByParts : Vocabulary → Kind → Known → Fact → ℕ → Type 0
-ByParts v k o f p = ByPart k o (concept v o.right) f p
+-- by the operands or the filler of the right concept
+abbrev pub ByOperands : Known → Drawing
+ByOperands o v = ByOperand o (concept v o.right) v
 
 -- by any of these
-abbrev pub ByOwn : Vocabulary → Kind → (Job → ℕ) → Known → Fact → ℕ → Type 0
-ByOwn v k done o f p = (AnyBelow (length v.inclusions) (ByStated v k o) f p ⊎ ByParts v k o f p) ⊎ AnyBelow (length v.concepts) (ByConcept v k done o) f p
+abbrev pub ByOwn : Known → Drawing
+ByOwn o = Either (Either (AnyBelow (λ v. length v.inclusions) (ByStated o)) (ByOperands o)) (AnyBelow (λ v. length v.concepts) (ByConcept o))

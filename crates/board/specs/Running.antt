@@ -1,57 +1,51 @@
--- A run, part by part.
-use Rattle.std.specs.Prelude.{◌≡◌, ℕ, ◌+◌, ◌-◌, ◌<◌, ◌≤◌, List, length}
+-- A step and a run, part by part.
+use Rattle.std.specs.Prelude.{◌≡◌, ℕ, ◌+◌, ◌-◌, ◌<◌, ◌≤◌, List, Option, MatchOption}
 use Rattle.grades.specs.Kinds.{Kind}
-use Rattle.piles.specs.Sets.{Numbers}
+use Rattle.piles.specs.Sets.{count_of}
+use Rattle.piles.specs.Shapes.{Shape}
 use Rattle.terms.specs.Vocabularies.{Vocabulary}
+use Rattle.reasoning.specs.declared.Job.{Job}
 use Rattle.saturation.specs.declared.State.TheVariants.{Held}
 use Rattle.saturation.specs.declared.Outcome.{Outcome}
-use Rattle.saturation.specs.Boards.{Moment, QuietAt}
-use Rattle.saturation.specs.Effects.{Lowered, Rechecked}
+use Rattle.saturation.specs.Boards.{Board, Moment, QuietAt}
+use Rattle.saturation.specs.Effects.{Worked, Lowered, Rechecked}
 use Rattle.saturation.specs.Histories.{Event}
 use Rattle.saturation.specs.Runs.{Exhausts, Runs}
-use Rattle.board.specs.Stages.{OpenBoard}
-use Rattle.board.specs.Views.{content_of, moment_of, SaneBoard}
-use Rattle.board.specs.Frames.{Kept}
-use Rattle.board.specs.Calls.{StaysSane}
+use Rattle.board.specs.Rejections.{Ready}
 
--- so many steps at c led from a to b: whatever goes on from b goes on from a
-abbrev pub Stepping : Vocabulary → Kind → ℕ → ℕ → Moment → Moment → Type 0
-Stepping v k c done a b = (rest more : ℕ) (es : List Event) (z : Moment) → Exhausts v k c rest more es b z → (fs : List Event) × Exhausts v k c (done + rest) (done + more) fs a z
+-- the job that was done at c, or none where none waits and all is as before
+abbrev pub WorkedOrNone : {Y : Type 0} → Vocabulary → Kind → Shape Y → ℕ → Moment Y → Moment Y → Option Job → Type 0
+WorkedOrNone v k S c a b r = MatchOption r (QuietAt v a.board c × (b ≡ a)) (λ j. Worked v k S c j a b)
 
--- so many steps were done at c, and it is still held
-pub record Ongoing {X Y : Type 0} (v : Vocabulary) (k : Kind) (numbers : Y → Numbers) (c steps : ℕ) (a : OpenBoard X) (p : Y) (b : OpenBoard X) (q : Y) : Type 0 where
-  pub kept : Kept numbers a p b q
-  pub held : (content_of b).state c ≡ Held
-  pub still : steps ≡ 0 → (b ≡ a) × (q ≡ p)
-  pub sane : StaysSane k a b
-  pub stepping : SaneBoard k a → Stepping v k c steps (moment_of numbers a p) (moment_of numbers b q)
+-- so many steps at c led from a to b, and it is still held: whatever goes on from b goes on from a
+pub record Ongoing {Y : Type 0} (v : Vocabulary) (k : Kind) (S : Shape Y) (c steps : ℕ) (a b : Moment Y) : Type 0 where
+  pub held : b.board.state c ≡ Held
+  pub still : steps ≡ 0 → b ≡ a
+  pub stepping : (rest more : ℕ) (es : List Event) (z : Moment Y) → Exhausts v k S c rest more es b z → (fs : List Event) × Exhausts v k S c (steps + rest) (steps + more) fs a z
 
 -- the steps at c while the budget lasts and a job waits there
-pub record Exhausted {X Y : Type 0} (v : Vocabulary) (k : Kind) (numbers : Y → Numbers) (c budget steps : ℕ) (a : OpenBoard X) (p : Y) (b : OpenBoard X) (q : Y) : Type 0 where
-  pub kept : Kept numbers a p b q
-  pub held : (content_of b).state c ≡ Held
+pub record Exhausted {Y : Type 0} (v : Vocabulary) (k : Kind) (S : Shape Y) (c budget steps : ℕ) (a b : Moment Y) : Type 0 where
+  pub held : b.board.state c ≡ Held
   pub spent : steps ≤ budget
-  pub still : steps ≡ 0 → (b ≡ a) × (q ≡ p)
-  pub quiet : steps < budget → QuietAt v (content_of b) c
-  pub sane : StaysSane k a b
-  pub exhausts : SaneBoard k a → (es : List Event) × Exhausts v k c budget steps es (moment_of numbers a p) (moment_of numbers b q)
+  pub still : steps ≡ 0 → b ≡ a
+  pub quiet : steps < budget → QuietAt v b.board c
+  pub events : List Event
+  pub exhausts : Exhausts v k S c budget steps events a b
 
--- such steps, a lowering and a recheck
-pub record Turned {X Y : Type 0} (v : Vocabulary) (k : Kind) (numbers : Y → Numbers) (c budget steps : ℕ) (a : OpenBoard X) (p : Y) (b : OpenBoard X) (q : Y) : Type 0 where
-  pub kept : Kept numbers a p b q
+-- such steps, a lowering and a recheck: after a turn of no steps the pile holds as many numbers as before
+pub record Turned {Y : Type 0} (v : Vocabulary) (k : Kind) (S : Shape Y) (c budget steps : ℕ) (a b : Moment Y) : Type 0 where
+  pub ready : Ready v S b
   pub spent : steps ≤ budget
-  pub still : steps ≡ 0 → 0 < budget → (x : ℕ) → (numbers q).holds x ≡ (numbers p).holds x
-  pub sane : StaysSane k a b
-  pub turns : SaneBoard k a →
-      (es : List Event) × (d e : Moment) × Exhausts v k c budget steps es (moment_of numbers a p) d × Lowered (length v.concepts) v.roles c d e × Rechecked v c e (moment_of numbers b q)
+  pub still : steps ≡ 0 → 0 < budget → count_of (S.numbers b.pile) ≡ count_of (S.numbers a.pile)
+  pub events : List Event
+  pub done : Moment Y
+  pub exhausts : Exhausts v k S c budget steps events a done
+  pub idle : Board
+  pub lowered : Lowered c done.board idle
+  pub rechecked : Rechecked v S c (record { board = idle; pile = done.pile }) b
 
 -- turns of so many steps led from a to b: whatever goes on from b goes on from a
-abbrev pub Turning : Vocabulary → Kind → ℕ → ℕ → Moment → Moment → Type 0
-Turning v k budget steps a b = (o : Outcome) (more : ℕ) (fs : List Event) (z : Moment) → Runs v k (budget - steps) o more fs b z → (es : List Event) × Runs v k budget o (steps + more) es a z
-
--- turns of so many steps were made
-pub record Rolling {X Y : Type 0} (v : Vocabulary) (k : Kind) (numbers : Y → Numbers) (budget steps : ℕ) (a : OpenBoard X) (p : Y) (b : OpenBoard X) (q : Y) : Type 0 where
-  pub kept : Kept numbers a p b q
+pub record Rolling {Y : Type 0} (v : Vocabulary) (k : Kind) (S : Shape Y) (budget steps : ℕ) (a b : Moment Y) : Type 0 where
+  pub ready : Ready v S b
   pub spent : steps ≤ budget
-  pub sane : StaysSane k a b
-  pub turning : SaneBoard k a → Turning v k budget steps (moment_of numbers a p) (moment_of numbers b q)
+  pub turning : (o : Outcome) (more : ℕ) (fs : List Event) (z : Moment Y) → Runs v k S (budget - steps) o more fs b z → (es : List Event) × Runs v k S budget o (steps + more) es a z

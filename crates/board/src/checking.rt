@@ -2,7 +2,8 @@
 ghost use Rattle.std.specs.Prelude.{ℕ, length, MatchResult};
 ghost use Rattle.piles.specs.Sets.{Numbers};
 ghost use Rattle.terms.specs.Views.{terms_of};
-ghost use Rattle.board.specs.Refusals.{Coded, MakeRejected, InOrder};
+ghost use Rattle.board.specs.Rejections.{Coded, CheckRejected};
+ghost use Rattle.board.specs.Calls.{CheckedBy};
 
 use crate::counts::Counts;
 use grades::kind::GradeKind;
@@ -12,7 +13,9 @@ use terms::terms::Terms;
 
 /// Whether every inclusion's code is one of the kind.
 fn check_codes<K: GradeKind>(terms: &Terms, _kind: K) -> Result<(), Rejection>
-    ensures { MatchResult result (λ _. Coded (terms_of terms.now) K.GradeKind.kind) (λ e. (words : ℕ) (s : Numbers) → MakeRejected (terms_of terms.now) K.GradeKind.kind words s e) }
+    ensures { let v = terms_of terms.now in
+        MatchResult result (λ _. Coded v K.kind)
+        (λ e. (words : ℕ) (s : Numbers) → CheckRejected v K.kind words s e) }
 {
     if terms
         .inclusions()
@@ -31,7 +34,8 @@ pub fn check<K: GradeKind, P: Pile>(
     pile: &P,
     kind: K,
 ) -> Result<(), Rejection>
-    ensures { MatchResult result (λ _. InOrder (terms_of terms.now) K.GradeKind.kind (length words.now) (P.Pile.numbers pile.now)) (MakeRejected (terms_of terms.now) K.GradeKind.kind (length words.now) (P.Pile.numbers pile.now)) }
+    ensures { CheckedBy (terms_of terms.now) K.kind (length words.now) (P.shape.numbers pile.now)
+        result }
 {
     check_codes(terms, kind)?;
     let counts = Counts::of(terms);

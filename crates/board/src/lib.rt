@@ -3,8 +3,6 @@
 
 pub mod board;
 pub mod checking;
-pub mod closed;
 mod counts;
 mod lookup;
-mod reader;
 pub mod tokens;

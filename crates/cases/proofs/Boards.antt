@@ -3,7 +3,8 @@ use Rattle.std.proofs.Common.{◌≡◌, suc, ◌≤◌, List, [], ◌∷◌, le
 use mathlib.Core.List.Memᴰ
 use mathlib.Core.List.{Memᴰ}
 use Rattle.reasoning.specs.declared.Fact.TheVariants.{Under as under}
-use Rattle.saturation.specs.AnyOrder.{Distinct}
+use Rattle.piles.specs.Shapes.{Distinct, any_pile}
+use Rattle.saturation.proofs.Sizes.{on}
 use Rattle.saturation.proofs.OneAnswer.{any_order}
 use Rattle.saturation.proofs.Truths.{one_grade}
 use Rattle.cases.specs.Expectations.{BoardsAnswer}
@@ -36,10 +37,10 @@ no_more (x ∷ xs) ys d sub =
     omega (arith, without_length ys m)
 
 pub boards_answer : BoardsAnswer
-boards_answer k lawful v wf es m h quiet =
-    let promise = (any_order k lawful v wf).0 es m h in (
+boards_answer k lawful v wf b l quiet =
+    let promise = (any_order any_pile any_pile k lawful v wf).0 l.events (record { board = b; pile = l.pile }) l.history in (
       λ a d code i l g.
-          one_grade v k lawful (record { is_code = promise.sane.found (under a d) (i.0, l); truthful = promise.true_in_models quiet a d i l }) g,
+          one_grade v k lawful (record { is_code = promise.sane.found (under a d) (on promise.goes (under a d) (i.0, l)); truthful = promise.true_in_models quiet a d i l }) g,
       λ n single s.
           let t = promise.exact_steps single quiet in
           let few : length t.some.pairs ≤ length s.some.pairs = no_more t.some.pairs s.some.pairs t.some.distinct (λ u w. s.every u (t.some.each u w)) in

@@ -18,13 +18,13 @@ use Rattle.terms.specs.Vocabularies.{Vocabulary, Named, is_named, WellFormed}
 use Rattle.reasoning.specs.declared.Fact.{Fact}
 use Rattle.reasoning.specs.declared.Fact.TheVariants.{Under as under}
 use Rattle.reasoning.specs.Derivations.{Derivable}
-use Rattle.saturation.specs.Boards.{Board, Quiet}
+use Rattle.saturation.specs.Boards.{Board}
 use Rattle.saturation.specs.Answers.{TrulyUnder, Grade, Mate, Parent}
 use Rattle.saturation.specs.Deciding.{mate_test, parent_test}
 use Rattle.saturation.proofs.Deciding.{named_decides, mate_decides, parent_decides}
 use Rattle.saturation.proofs.Truths.{one_grade}
 use Rattle.board.specs.Layout.{words_needed}
-use Rattle.board.specs.Questions.{Under, answer, unsettled, no_concept, other_terms, job_waits}
+use Rattle.board.specs.Questions.{Settled, Under, answer, unsettled, no_concept, other_terms, job_waits}
 use Rattle.sheet.specs.declared.fault.Fault.{Fault}
 use Rattle.listing.specs.declared.page.Row.{Row}
 use Rattle.listing.specs.Listings.{Listed, Precedes, Listing}
@@ -64,7 +64,7 @@ met_test v k facts (grade a d code) = is_named v a && (ltb d (length v.concepts)
 met_test v k facts (listing rows) = listing_test v k facts rows
 met_test v k facts (steps n) = counts n (pairs v k facts)
 met_test v k facts (mates a p xs) = is_named v a && (ltb p k.points && lists (length v.concepts) (mate_test v (λ c d. has (facts p) (under c d)) a) xs)
-met_test v k facts (parents a p xs) = is_named v a && (ltb p k.points && lists (length v.concepts) (parent_test (length v.concepts) v (λ c d. has (facts p) (under c d)) a) xs)
+met_test v k facts (parents a p xs) = is_named v a && (ltb p k.points && lists (length v.concepts) (parent_test v (λ c d. has (facts p) (under c d)) a) xs)
 met_test v k facts (words n) = eqb (words_needed (length v.concepts) v.roles) n
 met_test v k facts (unknown a) = not (is_named v a)
 
@@ -101,10 +101,10 @@ passes c = read_test (length c.sheet) (reading c.sheet) && contents_test (kind_o
 -- ---- what passes is true
 
 -- what is no named concept is not answered for
-unknown_true : (v : Vocabulary) (a : ℕ) → (Named v a → ⊥) → (b : Board) → Quiet v b → (d : ℕ) (r : Result ℕ Rejection) → Under v (length v.concepts) v.roles b a d r → r ≡ Err NoSuchConcept
+unknown_true : (v : Vocabulary) (a : ℕ) → (Named v a → ⊥) → (b : Board) → Settled v b → (d : ℕ) (r : Result ℕ Rejection) → Under v b a d r → r ≡ Err NoSuchConcept
 unknown_true v a n b q d r (answer s i l) = absurd (n i)
-unknown_true v a n b q d r (unsettled (other_terms h)) = absurd (h (record { concepts = refl; roles = refl }))
-unknown_true v a n b q d r (unsettled (job_waits s h)) = absurd (h q)
+unknown_true v a n b q d r (unsettled (other_terms h)) = absurd (h q.goes)
+unknown_true v a n b q d r (unsettled (job_waits s h)) = absurd (h q.quiet)
 unknown_true v a n b q d r (no_concept s h) = refl
 
 module _ (v : Vocabulary) (wf : WellFormed v) (k : Kind) (lawful : Lawful k) (facts : ℕ → List Fact)
@@ -204,10 +204,10 @@ module _ (v : Vocabulary) (wf : WellFormed v) (k : Kind) (lawful : Lawful k) (fa
       let n = length v.concepts in
       let related = λ (c d : ℕ). has (facts p) (under c d) in
       let t = and_parts (is_named v a) _ h in
-      let u = and_parts (ltb p k.points) (lists n (parent_test n v related a) xs) t.1 in
+      let u = and_parts (ltb p k.points) (lists n (parent_test v related a) xs) t.1 in
       let i = (named_decides v a).0 t.0 in
       let l = ltb-true p k.points u.0 in
-      (i, l, lists_true n (parent_test n v related a) (Parent v (TrulyUnder v k p) a) xs (λ x. parent_decides v related (TrulyUnder v k p) (λ c d ic id. tells p l c d ic id.0) a x i) (λ x m. m.0.0) u.1)
+      (i, l, lists_true n (parent_test v related a) (Parent v (TrulyUnder v k p) a) xs (λ x. parent_decides v related (TrulyUnder v k p) (λ c d ic id. tells p l c d ic id.0) a x i) (λ x m. m.0.0) u.1)
   met_true (words n) h = eqb-true (words_needed (length v.concepts) v.roles) n h
   met_true (unknown a) h = unknown_true v a ((Decides-not _ (named_decides v a)).0 h)
 

@@ -13,7 +13,7 @@ use Rattle.reasoning.specs.declared.Job.{Job}
 use Rattle.reasoning.specs.declared.Job.TheVariants.{Own as own, Link as link, Imply as imply}
 use Rattle.reasoning.specs.Derivations.{fact_of, Rule, Derivable, by, Closed}
 use Rattle.reasoning.proofs.Complete.{exact, least}
-use Rattle.cases.specs.Rounds.{numbers, only, has, start_of, parts_of, wholes_of, joined, links_of, inclusions_from, wholes_from, drawn, starts, conclusions, closed, news, unless_none, rounds, ConclusionsDrawn, RoundsDerive, RoundsTell}
+use Rattle.cases.specs.Rounds.{numbers, only, has, start_of, operands_of, wholes_of, joined, links_of, inclusions_from, wholes_from, drawn, starts, conclusions, closed, news, unless_none, rounds, ConclusionsDrawn, RoundsDerive, RoundsTell}
 use Rattle.cases.proofs.Lists.{numbers_of, numbers_at, each_of, each_at, only_of, only_at, has_of, has_at, all_in_lem, news_at}
 
 -- what is made of other concepts is there
@@ -42,7 +42,7 @@ module _ (v : Vocabulary) (on : ℕ → Bool) (facts : List Fact) where
   of_start a (Conjunction c d) l e m = absurd (mathlib.Core.List.Memᴰ.not-nil m)
   of_start a (Restriction r d) l e m = absurd (mathlib.Core.List.Memᴰ.not-nil m)
 
-  of_parts : {f : Fact} (c x : ℕ) (k : Concept) → Memᴰ (under c x) facts → concept v x ≡ k → Memᴰ f (parts_of c k) → Drawn v on facts f
+  of_parts : {f : Fact} (c x : ℕ) (k : Concept) → Memᴰ (under c x) facts → concept v x ≡ k → Memᴰ f (operands_of c k) → Drawn v on facts f
   of_parts c x Atomic h e m = absurd (mathlib.Core.List.Memᴰ.not-nil m)
   of_parts c x Top h e m = absurd (mathlib.Core.List.Memᴰ.not-nil m)
   of_parts c x (Conjunction a b) h e m =
@@ -118,7 +118,7 @@ module _ (v : Vocabulary) (on : ℕ → Bool) (facts : List Fact) where
       (λ w. let t = each_at (λ y. wholes_of facts c x y (concept v y)) (numbers (length v.concepts)) w in of_wholes c x t.0 (concept v t.0) h refl t.2)
       (of_links c x (concept v x) h refl)
       (mathlib.Core.List.Memᴰ.append_cases (wholes_from v facts c x) m₂))
-      (mathlib.Core.List.Memᴰ.append_cases (parts_of c (concept v x)) m₁))
+      (mathlib.Core.List.Memᴰ.append_cases (operands_of c (concept v x)) m₁))
       (mathlib.Core.List.Memᴰ.append_cases (inclusions_from v on c x) m)
 
   -- a conclusion is drawn by a rule
@@ -136,18 +136,18 @@ module _ (v : Vocabulary) (on : ℕ → Bool) (facts : List Fact) where
   by_inclusions : {f : Fact} {c x : ℕ} → Memᴰ (under c x) facts → Memᴰ f (inclusions_from v on c x) → Memᴰ f (conclusions v on facts)
   by_inclusions h m = from h (mathlib.Core.List.Memᴰ.append_left _ m)
 
-  by_parts : {f : Fact} {c x : ℕ} {k : Concept} → Memᴰ (under c x) facts → Is v x k → Memᴰ f (parts_of c k) → Memᴰ f (conclusions v on facts)
-  by_parts {f} {c} {x} h i m = from h (mathlib.Core.List.Memᴰ.append_right (inclusions_from v on c x) (mathlib.Core.List.Memᴰ.append_left _ (subst (λ (q : Concept). Memᴰ f (parts_of c q)) (sym i.1) m)))
+  by_parts : {f : Fact} {c x : ℕ} {k : Concept} → Memᴰ (under c x) facts → Is v x k → Memᴰ f (operands_of c k) → Memᴰ f (conclusions v on facts)
+  by_parts {f} {c} {x} h i m = from h (mathlib.Core.List.Memᴰ.append_right (inclusions_from v on c x) (mathlib.Core.List.Memᴰ.append_left _ (subst (λ (q : Concept). Memᴰ f (operands_of c q)) (sym i.1) m)))
 
   by_wholes : {f : Fact} {c x y : ℕ} {k : Concept} → Memᴰ (under c x) facts → Is v y k → Memᴰ f (wholes_of facts c x y k) → Memᴰ f (conclusions v on facts)
   by_wholes {f} {c} {x} {y} h i m =
       let here : Memᴰ f (wholes_of facts c x y (concept v y)) = subst (λ (q : Concept). Memᴰ f (wholes_of facts c x y q)) (sym i.1) m in
-      from h (mathlib.Core.List.Memᴰ.append_right (inclusions_from v on c x) (mathlib.Core.List.Memᴰ.append_right (parts_of c (concept v x)) (mathlib.Core.List.Memᴰ.append_left _
+      from h (mathlib.Core.List.Memᴰ.append_right (inclusions_from v on c x) (mathlib.Core.List.Memᴰ.append_right (operands_of c (concept v x)) (mathlib.Core.List.Memᴰ.append_left _
       (each_of (λ z. wholes_of facts c x z (concept v z)) (numbers_of (length v.concepts) y i.0) here))))
 
   by_links : {f : Fact} {d x r c : ℕ} (g : Fact) → Memᴰ (under d x) facts → Is v x (Restriction r c) → Memᴰ g facts → Memᴰ f (joined v d r c g) → Memᴰ f (conclusions v on facts)
   by_links {f} {d} {x} {r} {c} g h i l m =
-      from h (mathlib.Core.List.Memᴰ.append_right (inclusions_from v on d x) (mathlib.Core.List.Memᴰ.append_right (parts_of d (concept v x)) (mathlib.Core.List.Memᴰ.append_right (wholes_from v facts d x)
+      from h (mathlib.Core.List.Memᴰ.append_right (inclusions_from v on d x) (mathlib.Core.List.Memᴰ.append_right (operands_of d (concept v x)) (mathlib.Core.List.Memᴰ.append_right (wholes_from v facts d x)
       (subst (λ (q : Concept). Memᴰ f (links_of v facts d q)) (sym i.1) (each_of (joined v d r c) l m)))))
 
   -- what a rule draws is a conclusion

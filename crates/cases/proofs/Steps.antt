@@ -13,7 +13,8 @@ use Rattle.reasoning.specs.declared.Job.{Job}
 use Rattle.reasoning.specs.declared.Job.TheVariants.{Own as own, Link as link, Imply as imply}
 use Rattle.reasoning.specs.Derivations.{fact_of, Derivable, JobAt, at_left, at_filler, at_premise}
 use Rattle.reasoning.proofs.Rules.{derivable_within}
-use Rattle.saturation.specs.AnyOrder.{Distinct, Due, AllDue}
+use Rattle.piles.specs.Shapes.{Distinct}
+use Rattle.saturation.specs.AnyOrder.{Due, AllDue}
 use Rattle.cases.specs.Rounds.{numbers, each, has}
 use Rattle.cases.proofs.Lists.{numbers_of, numbers_at, each_of, each_at, has_of, has_at}
 use Rattle.cases.proofs.Rounds.{there}

@@ -4,7 +4,7 @@ use mathlib.Core.List.{Memᴰ}
 use Prim.Native.String.{String}
 use Rattle.terms.specs.Contents.{vocabulary_of}
 use Rattle.terms.specs.Vocabularies.{Vocabulary, WellFormed}
-use Rattle.board.specs.Refusals.{Coded}
+use Rattle.board.specs.Rejections.{Coded}
 use Rattle.listing.specs.Rows.{row}
 use Rattle.cases.specs.Sheets.{reading, stated}
 use Rattle.cases.specs.Expectations.{KindName, Plain, Releases, Views, kind_of, Expectation, grade, listing, steps, mates, parents, words, unknown, Met}

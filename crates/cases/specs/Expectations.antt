@@ -8,12 +8,12 @@ use Rattle.grades.specs.Releases.{releases}
 use Rattle.grades.specs.Views.{views}
 use Rattle.terms.specs.Vocabularies.{Vocabulary, Named, WellFormed}
 use Rattle.reasoning.specs.declared.Fact.TheVariants.{Under as under}
-use Rattle.saturation.specs.Boards.{Board, Moment, Quiet}
-use Rattle.saturation.specs.Histories.{Event, History}
+use Rattle.saturation.specs.Boards.{Board, Quiet}
+use Rattle.saturation.specs.Histories.{Led}
 use Rattle.saturation.specs.AnyOrder.{AllDue}
 use Rattle.saturation.specs.Answers.{TrulyUnder, Grade, Mate, Parent, ListOf}
-use Rattle.board.specs.Layout.{words_needed}
-use Rattle.board.specs.Questions.{Under}
+use Rattle.board.specs.Layout.{needed_for}
+use Rattle.board.specs.Questions.{Settled, Under}
 use Rattle.listing.specs.declared.page.Row.{Row}
 use Rattle.listing.specs.Listings.{Listing}
 
@@ -45,11 +45,11 @@ Met v k (listing rows) = Listing v k rows
 Met v k (steps n) = AllDue v k n
 Met v k (mates a p xs) = Named v a × (p < k.points) × ListOf (Mate v (TrulyUnder v k p) a) xs
 Met v k (parents a p xs) = Named v a × (p < k.points) × ListOf (Parent v (TrulyUnder v k p) a) xs
-Met v k (words n) = words_needed (length v.concepts) v.roles ≡ n
-Met v k (unknown a) = (b : Board) → Quiet v b → (d : ℕ) (r : Result ℕ Rejection) → Under v (length v.concepts) v.roles b a d r → r ≡ Err NoSuchConcept
+Met v k (words n) = needed_for v ≡ n
+Met v k (unknown a) = (b : Board) → Settled v b → (d : ℕ) (r : Result ℕ Rejection) → Under v b a d r → r ≡ Err NoSuchConcept
 
 -- on any board on which no job waits, a grade as expected is the one that was found, and with one point the steps are as many as expected
 abbrev pub BoardsAnswer : Type 0
-BoardsAnswer = (k : Kind) → Lawful k → (v : Vocabulary) → WellFormed v → (es : List Event) (m : Moment) → History v k es m → Quiet v m.board →
-    ((a d code : ℕ) → Named v a → d < length v.concepts → Grade v k a d code → m.board.found (under a d) ≡ code)
-    × ((n : ℕ) → k.points ≡ 1 → AllDue v k n → m.board.steps ≡ n)
+BoardsAnswer = (k : Kind) → Lawful k → (v : Vocabulary) → WellFormed v → (b : Board) → Led v k b → Quiet v b →
+    ((a d code : ℕ) → Named v a → d < length v.concepts → Grade v k a d code → b.found (under a d) ≡ code)
+    × ((n : ℕ) → k.points ≡ 1 → AllDue v k n → b.steps ≡ n)

@@ -36,28 +36,28 @@ same (implies s a b) (implies t c d) = s == t && (a == c && b == d)
 abbrev pub has : List Fact → Fact → Bool
 has facts f = list_any (same f) facts
 
--- the start fact of a, if a is named
+-- the rule start: the start fact of a, if a is named
 abbrev pub start_of : ℕ → Concept → List Fact
 start_of a Atomic = under a a ∷ []
 start_of a Top = []
 start_of a (Conjunction d e) = []
 start_of a (Restriction r d) = []
 
--- what "c under x" gives by the way in which x is made
-abbrev pub parts_of : ℕ → Concept → List Fact
-parts_of c Atomic = []
-parts_of c Top = []
-parts_of c (Conjunction d e) = under c d ∷ under c e ∷ []
-parts_of c (Restriction r d) = under d d ∷ []
+-- the rules left, right and filler: what "c under x" gives by the way in which x is made
+abbrev pub operands_of : ℕ → Concept → List Fact
+operands_of c Atomic = []
+operands_of c Top = []
+operands_of c (Conjunction d e) = under c d ∷ under c e ∷ []
+operands_of c (Restriction r d) = under d d ∷ []
 
--- what "c under x" gives by the way in which y is made
+-- the rules top, both and some: what "c under x" gives by the way in which y is made
 abbrev pub wholes_of : List Fact → ℕ → ℕ → ℕ → Concept → List Fact
 wholes_of facts c x y Atomic = []
 wholes_of facts c x y Top = only (c == x) (under c y ∷ [])
 wholes_of facts c x y (Conjunction d e) = only (d == x && has facts (under c e)) (under c y ∷ [])
 wholes_of facts c x y (Restriction s d) = only (d == x) (implies s c y ∷ [])
 
--- what "d under the restriction of r to c" gives with one other fact
+-- the rules follows and spreads: what "d under the restriction of r to c" gives with one other fact
 abbrev pub joined : Vocabulary → ℕ → ℕ → ℕ → Fact → List Fact
 joined v d r c (under a b) = []
 joined v d r c (implies s b e) =
@@ -72,7 +72,7 @@ links_of v facts d Top = []
 links_of v facts d (Conjunction a b) = []
 links_of v facts d (Restriction r c) = each facts (joined v d r c)
 
--- what "c under x" gives by the inclusions
+-- the rule stated: what "c under x" gives by the inclusions
 abbrev pub inclusions_from : Vocabulary → (ℕ → Bool) → ℕ → ℕ → List Fact
 inclusions_from v on c x = each v.inclusions (λ i. only (on i.code && x == i.sub) (under c i.sup ∷ []))
 
@@ -83,7 +83,7 @@ wholes_from v facts c x = each (numbers (length v.concepts)) (λ y. wholes_of fa
 -- what a fact gives, alone or with others
 abbrev pub drawn : Vocabulary → (ℕ → Bool) → List Fact → Fact → List Fact
 drawn v on facts (implies s c e) = []
-drawn v on facts (under c x) = inclusions_from v on c x ++ (parts_of c (concept v x) ++ (wholes_from v facts c x ++ links_of v facts c (concept v x)))
+drawn v on facts (under c x) = inclusions_from v on c x ++ (operands_of c (concept v x) ++ (wholes_from v facts c x ++ links_of v facts c (concept v x)))
 
 -- the start facts
 abbrev pub starts : Vocabulary → List Fact

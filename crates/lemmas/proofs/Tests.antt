@@ -21,9 +21,6 @@ pub every_of : (n : ℕ) (f : ℕ → Bool) → ((i : ℕ) → i < n → f i ≡
 every_of zero f h = refl
 every_of (suc n) f h = and_from (f n) (every n f) (h n (omega arith)) (every_of n f (λ i l. h i (omega arith)))
 
-pub every_more : (i : ℕ) (f : ℕ → Bool) → every i f ≡ true → f i ≡ true → every (i + 1) f ≡ true
-every_more i f h e = rw add-one (and_from (f i) (every i f) e h)
-
 pub every_fails : (n : ℕ) (f : ℕ → Bool) (i : ℕ) → i < n → f i ≡ false → every n f ≡ false
 every_fails zero f i l e = absurd (omega arith)
 every_fails (suc n) f i l e = elim (cases_eq i n) [

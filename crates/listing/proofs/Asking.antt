@@ -12,12 +12,12 @@ use Rattle.board.specs.Questions.{Settled, SettledOr, settled, other_terms, job_
 use Rattle.listing.specs.Rows.{code_to_list}
 
 -- a board that can be asked rejects no question about its named concepts
-never_unsettled : {v : Vocabulary} {n m : ℕ} {b : Board} {r : Result (Unit {0}) Rejection} {e : Rejection} → r ≡ Err e → Settled v n m b → SettledOr v n m b r → ⊥
+never_unsettled : {v : Vocabulary} {b : Board} {r : Result (Unit {0}) Rejection} {e : Rejection} → r ≡ Err e → Settled v b → SettledOr v b r → ⊥
 never_unsettled q s (settled t) = let z : ◌≡◌ {A = ℕ} 0 1 = cc in omega arith
-never_unsettled q s (other_terms h) = h s.0
-never_unsettled q s (job_waits h w) = w s.1
+never_unsettled q s (other_terms h) = h s.goes
+never_unsettled q s (job_waits h w) = w s.quiet
 
-pub answered : {v : Vocabulary} {n m : ℕ} {b : Board} {a d : ℕ} {r : Result ℕ Rejection} → Settled v n m b → Named v a → d < length v.concepts → Under v n m b a d r → r ≡ Ok (b.found (under a d))
+pub answered : {v : Vocabulary} {b : Board} {a d : ℕ} {r : Result ℕ Rejection} → Settled v b → Named v a → d < length v.concepts → Under v b a d r → r ≡ Ok (b.found (under a d))
 answered s i l (answer t j k) = refl
 answered s i l (unsettled u) = absurd (never_unsettled refl s u)
 answered s i l (no_concept t h) = absurd (h i l)

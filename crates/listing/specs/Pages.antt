@@ -22,5 +22,5 @@ abbrev pub page_of : List Row → List ℕ
 page_of rows = flat_map row_bytes rows
 
 -- behind the first bytes of the page stand the lines of the rows, up to the place that is answered, in at most so many bytes
-abbrev pub Wrote : List Row → ℕ → ℕ → ℕ → List ℕ → List ℕ → Type 0
-Wrote rows filled end most entry page = (page ≡ put_at filled (page_of rows) entry) × (end ≡ filled + length (page_of rows)) × (length (page_of rows) ≤ most)
+abbrev pub RowsAt : List Row → ℕ → ℕ → ℕ → List ℕ → List ℕ → Type 0
+RowsAt rows filled end most entry page = (page ≡ put_at filled (page_of rows) entry) × (end ≡ filled + length (page_of rows)) × (length (page_of rows) ≤ most)

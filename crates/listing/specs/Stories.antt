@@ -14,8 +14,8 @@ use Rattle.sheet.specs.declared.fault.Fault.{Fault}
 use Rattle.sheet.specs.Faults.{beyond_limit}
 use Rattle.sheet.specs.Sheet.{sheet_of}
 use Rattle.sheet.specs.Written.{ReadAs}
-use Rattle.board.specs.Layout.{words_needed}
-use Rattle.board.specs.Refusals.{Coded}
+use Rattle.board.specs.Layout.{needed_for}
+use Rattle.board.specs.Rejections.{Coded}
 use Rattle.listing.specs.declared.page.Row.{Row}
 use Rattle.listing.specs.declared.trouble.Trouble.{Trouble}
 use Rattle.listing.specs.declared.trouble.Trouble.TheVariants.{Reading, Check}
@@ -25,9 +25,9 @@ use Rattle.listing.specs.Listings.{Listing}
 -- the vocabulary's listing stands on the front of the page, and its length is answered; or there is no board for the vocabulary, since a code
 -- is none of the kind (8) or 17,640 words are too few (9), and the page is as before
 pub data ListedOr (v : Vocabulary) (k : Kind) (before after : List ℕ) : Result ℕ Rejection → Type 0 where
-  listing : Coded v k → words_needed (length v.concepts) v.roles ≤ 17640 → (rows : List Row) → Listing v k rows → after ≡ onto (page_of rows) before → ListedOr v k before after (Ok (length (page_of rows)))
+  listing : Coded v k → needed_for v ≤ 17640 → (rows : List Row) → Listing v k rows → after ≡ onto (page_of rows) before → ListedOr v k before after (Ok (length (page_of rows)))
   foreign_code : {i : Inclusion} → after ≡ before → Memᴰ i v.inclusions → k.codes ≤ i.code → ListedOr v k before after (Err ForeignCode)
-  too_few_words : after ≡ before → Coded v k → 17640 < words_needed (length v.concepts) v.roles → ListedOr v k before after (Err TooFewWords)
+  too_few_words : after ≡ before → Coded v k → 17640 < needed_for v → ListedOr v k before after (Err TooFewWords)
 
 -- the lists that a text is read into
 abbrev pub lists : Room

@@ -33,7 +33,7 @@ pub(crate) fn line(first: u16, second: u16, third: u16) -> [u8; 19]
 }
 
 impl<'p> Page<'p> {
-    ghost use Rattle.listing.specs.Pages.{Wrote};
+    ghost use Rattle.listing.specs.Pages.{RowsAt};
 
     /// A page of which nothing is written.
     pub(crate) fn new(bytes: &'p mut [u8]) -> Self
@@ -54,7 +54,8 @@ impl<'p> Page<'p> {
     /// Writes the line of a row behind what is written.
     pub(crate) fn push(&mut self, row: Row)
         requires { self.old.filled + 19 ≤ length self.old.bytes.now }
-        ensures wrote { Wrote (row ∷ []) self.old.filled self.new.filled 19 self.old.bytes.now self.new.bytes.now }
+        ensures printed { RowsAt (row ∷ []) self.old.filled self.new.filled 19 self.old.bytes.now
+            self.new.bytes.now }
         ensures lent { self.new.bytes.ghost_name ≡ self.old.bytes.ghost_name }
     {
         let end = self.filled + 19;

@@ -5,3 +5,5 @@ pub mod Members
 pub mod Links
 pub mod Rings
 pub mod Turns
+pub mod Acts
+pub mod Eaches

@@ -1,7 +1,8 @@
 -- Piles, from what every pile does to the two piles that there are.
--- Sets: what a pile holds, a put and a draw. Moves: one pile emptied into another.
+-- Sets: what a pile holds, a put and a draw. Shapes: what every pile shows, and chains of puts and draws. Moves: one pile emptied into another.
 -- Lists: what a lent list holds. Tables: the pile of marks. Chains, Orders: the ring.
 pub mod Sets
+pub mod Shapes
 pub mod Moves
 pub mod Lists
 pub mod Tables

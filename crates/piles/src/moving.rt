@@ -1,12 +1,13 @@
 //! From one pile to another.
-ghost use Rattle.piles.specs.Moves.{Moved};
+ghost use Rattle.piles.specs.Moves.{Transferred};
 
 use crate::pile::Pile;
 
 /// Draws every number of `a` and puts it into `b`; the answer is how many of them `b` refuses, which are then in neither.
 #[tactic(auto, using(crate::proofs::Turns::drawn_fewer))]
 pub fn move_all<P: Pile, Q: Pile>(a: &mut P, b: &mut Q) -> usize
-    ensures { Moved (P.Pile.numbers a.old) (Q.Pile.numbers b.old) (P.Pile.numbers a.new) (Q.Pile.numbers b.new) result }
+    ensures { Transferred (P.shape.numbers a.old) (Q.shape.numbers b.old)
+        (P.shape.numbers a.new) (Q.shape.numbers b.new) result }
 {
     // Counted by hand: a `count` over draws would act on both piles inside an iterator.
     let mut refused = 0;

@@ -1,44 +1,39 @@
-//! What every pile does. A pile is a worklist, known by the set of numbers that wait in it.
-ghost use Rattle.std.specs.Prelude.{◌≡◌, ℕ, Option};
-ghost use Rattle.piles.specs.Sets.{Numbers, Put, Drew, count_of};
+//! What every pile does. A pile is a worklist, known by its shape: the numbers that wait in it, its front, and what puts and draws make of it.
+ghost use Rattle.std.specs.Prelude.{◌≡◌};
+ghost use Rattle.piles.specs.Sets.{count_of};
+ghost use Rattle.piles.specs.Shapes.{Shape, PutBy, DrewBy, borrowed};
 
 use rejections::Rejection;
 
 /// A set of numbers below a size that never changes.
 pub trait Pile {
-    // What the pile holds, and its size.
-    ghost numbers: { Self → Numbers };
-
-    // The number that a draw takes out.
-    ghost front: { Self → Option ℕ };
+    // What the pile shows: its set and size, its front, and what a put and a draw make of it.
+    ghost shape: { Shape Self };
 
     /// The size, at most 1,024: every number that is held is below it.
     fn size(&self) -> usize
-        ensures { result ≡ (numbers self.now).size };
+        ensures { result ≡ (shape.numbers self.now).size };
 
     /// How many numbers are held.
     fn count(&self) -> usize
-        ensures { result ≡ count_of (numbers self.now) };
+        ensures { result ≡ count_of (shape.numbers self.now) };
 
     /// Whether `x` is held.
     fn holds(&self, x: u16) -> bool
-        ensures { result ≡ (numbers self.now).holds x };
+        ensures { result ≡ (shape.numbers self.now).holds x };
 
     /// Holds `x` from now on. One that is held already changes nothing, and one that is not below the size is rejected.
     fn put(&mut self, x: u16) -> Result<(), Rejection>
-        ensures set { Put (numbers self.old) (numbers self.new) x result };
+        ensures { PutBy shape x self.old self.new result };
 
     /// Takes out a number of the pile's choice; `None` says that none is held.
     fn draw(&mut self) -> Option<u16>
-        ensures set { Drew (numbers self.old) (numbers self.new) result }
-        ensures front { result ≡ front self.old };
+        ensures { DrewBy shape self.old self.new result };
 }
 
 /// A borrowed pile is a pile.
 impl<'a, P: Pile> Pile for &'a mut P {
-    ghost numbers = { λ s. P.Pile.numbers s.now };
-
-    ghost front = { λ s. P.Pile.front s.now };
+    ghost shape = { borrowed P.Pile.shape };
 
     fn size(&self) -> usize {
         (**self).size()

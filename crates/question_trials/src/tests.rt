@@ -1,6 +1,5 @@
 //! Rejections of questions.
-use board::board::OpenBoard;
-use board::closed::ClosedBoard;
+use board::board::{ClosedBoard, OpenBoard};
 use grades::kind::GradeKind;
 use grades::plain::Plain;
 use grades::releases::Releases;

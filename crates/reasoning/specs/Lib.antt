@@ -1,3 +1,4 @@
 pub mod Models
 pub mod Derivations
 pub mod Truth
+pub mod Parts

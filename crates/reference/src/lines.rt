@@ -45,7 +45,7 @@ pub enum Entry {
 
 /// A line, with its number, counted from 1.
 #[derive(Clone, Copy)]
-pub struct Line<'a> {
+pub struct NumberedLine<'a> {
     pub columns: &'a [u8; WIDTH],
     pub number: usize,
 }
@@ -57,7 +57,7 @@ fn number_in(field: &[u8; 6]) -> Option<u16> {
     (six_columns(usize::from(number)) == *field).then_some(number)
 }
 
-impl Line<'_> {
+impl NumberedLine<'_> {
     /// A fault in a column of the line.
     pub fn fault(&self, layer: Layer, reason: Reason, column: usize) -> Fault {
         Fault {

@@ -1,6 +1,6 @@
 //! A whole term sheet: where its first fault is.
 use crate::faults::{Fault, Layer, Reason};
-use crate::lines::{Concept, Entry, FIELD_COLUMNS, Inclusion, Line, WIDTH};
+use crate::lines::{Concept, Entry, FIELD_COLUMNS, Inclusion, NumberedLine, WIDTH};
 
 /// How many concepts and inclusions a reader has room for.
 #[derive(Clone, Copy)]
@@ -70,7 +70,7 @@ impl Counts {
     }
 
     /// The counts with the line below what is counted, or its first fault.
-    fn after(self, line: Line<'_>, most: Counts) -> Result<Counts, Fault> {
+    fn after(self, line: NumberedLine<'_>, most: Counts) -> Result<Counts, Fault> {
         let entry = line.entry()?;
         for (named, column) in self.names(entry).into_iter().zip(FIELD_COLUMNS) {
             if !named {
@@ -105,7 +105,7 @@ pub fn check(text: &[u8], room: Room) -> Result<(), Fault> {
     let mut above = Counts::default();
     for (place, columns) in lines.iter().enumerate() {
         let number = place + 1;
-        above = above.after(Line { columns, number }, most)?;
+        above = above.after(NumberedLine { columns, number }, most)?;
     }
     Ok(())
 }

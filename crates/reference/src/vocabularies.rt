@@ -1,6 +1,6 @@
 //! A vocabulary in plain lists, and its reading from a sheet.
 use crate::faults::Fault;
-use crate::lines::{Concept, Entry, Inclusion, Line, WIDTH};
+use crate::lines::{Concept, Entry, Inclusion, NumberedLine, WIDTH};
 use crate::sheets::{Room, check};
 use std::alloc::{AllocError, Global};
 
@@ -98,7 +98,7 @@ pub fn read(heap: Global, text: &[u8], room: Room) -> Result<Vocabulary, Unread>
     let (lines, _) = text.as_chunks::<WIDTH>();
     for (place, columns) in lines.iter().enumerate() {
         let number = place + 1;
-        vocabulary.add(Line { columns, number }.entry()?)?;
+        vocabulary.add(NumberedLine { columns, number }.entry()?)?;
     }
     for role in 0..vocabulary.above.len() {
         vocabulary.close_through(role);

@@ -27,10 +27,10 @@ module _ (v : Vocabulary) (under : ℕ → ℕ → Bool) (Under : ℕ → ℕ �
       decides_every b (λ c. not (mate_test v under b c)) (λ c. Mate v Under b c → b ≤ c)
       (λ c l. Decides-like (not (mate_test v under b c)) (λ n m. absurd (n m)) (λ h m. let z = h m in omega arith) (Decides-not _ (mate_decides b c ib))) (λ c l m. l)
 
-  pub parent_decides : (a b : ℕ) → Named v a → Decides (parent_test (length v.concepts) v under a b) (Parent v Under a b)
+  pub parent_decides : (a b : ℕ) → Named v a → Decides (parent_test v under a b) (Parent v Under a b)
   parent_decides a b ia =
       let n = length v.concepts in
-      Decides-like (parent_test n v under a b) (λ t. (t.0, t.1.0, t.1.1.0, t.1.1.1.0, t.1.1.1.1)) (λ m. (m.0, (m.1, (m.2, (m.3, m.4)))))
+      Decides-like (parent_test v under a b) (λ t. (t.0, t.1.0, t.1.1.0, t.1.1.1.0, t.1.1.1.1)) (λ m. (m.0, (m.1, (m.2, (m.3, m.4)))))
       (decides_then _ _ (named_decides v b) (λ ib.
       Decides-and _ _ (told a b ia ib)
       (Decides-and _ _ (Decides-not _ (told b a ib ia))

@@ -8,15 +8,17 @@ use Rattle.grades.specs.Kinds.{Kind, Lawful}
 use Rattle.reasoning.specs.declared.Fact.{Fact}
 use Rattle.reasoning.specs.declared.Job.{Job}
 use Rattle.reasoning.specs.Derivations.{fact_of, Within, JobAt, Rule, start, Derivable, by}
-use Rattle.saturation.specs.Boards.{Board, Moment, Sane}
-use Rattle.saturation.specs.Effects.{SameGrades, Made, Worked}
-use Rattle.saturation.specs.AnyOrder.{Distinct}
+use Rattle.piles.specs.Shapes.{Shape, Distinct}
+use Rattle.saturation.specs.Boards.{Board, Moment, GoesWith, On, Sane}
+use Rattle.saturation.specs.Effects.{SameGrades, Made, JobDone}
 use Rattle.reasoning.proofs.Jobs.{same_job, member, Start, is_start, at_within}
 use Rattle.reasoning.proofs.Rules.{conclusion_within, premises_within, first_premise}
 use Rattle.saturation.proofs.Numbers.{few_pairs, pairs_small}
+use Rattle.saturation.proofs.Sizes.{goes_then, on, within, on_before}
 
 pub record Good (v : Vocabulary) (k : Kind) (b : Board) : Type 0 where
-  pub sane : Sane (length v.concepts) v.roles k b
+  pub goes : GoesWith v b
+  pub sane : Sane k b
   pub sound : (f : Fact) (p : ℕ) → Within v f → p < k.points → k.holds (b.found f) p ≡ true → Derivable v (λ code. k.holds code p) f
   pub complete : (js : List Job) (f : Fact) (p : ℕ) → p < k.points → Rule v (λ code. k.holds code p) js f
       → ((j : Job) → Memᴰ j js → Within v (fact_of j) × (k.holds (b.done j) p ≡ true)) → k.holds (b.found f) p ≡ true
@@ -51,31 +53,29 @@ gap (suc n) P Q h = step (gap n P Q (λ p l. h p (omega arith))) (P n) (Q n) ref
 
 module _ (v : Vocabulary) (wf : WellFormed v) (k : Kind) (lawful : Lawful k) where
   -- the same grades keep it
-  pub sane_same : {a b : Board} → SameGrades (length v.concepts) v.roles a b → Sane (length v.concepts) v.roles k a → Sane (length v.concepts) v.roles k b
-  sane_same s g = record {
-    found = λ f w. rw (s.found f w) (g.found f w);
-    done = λ j w. rw (s.done j w) (g.done j w);
-    below = λ j p w l h. rw (s.found (fact_of j) w) (g.below j p w l (rw (s.done j w) at h));
-  }
-
-  pub good_same : {a b : Board} → SameGrades (length v.concepts) v.roles a b → Good v k a → Good v k b
+  pub good_same : {a b : Board} → SameGrades a b → Good v k a → Good v k b
   good_same s g = record {
-    sane = sane_same s g.sane;
-    sound = λ f p w l h. g.sound f p w l (rw (s.found f w) at h);
+    goes = goes_then g.goes s.sizes;
+    sane = record {
+      found = λ f w. let o = on_before s.sizes f w in rw (s.found f o) (g.sane.found f o);
+      done = λ j w. let o = on_before s.sizes (fact_of j) w in rw (s.done j o) (g.sane.done j o);
+      below = λ j p w l h. let o = on_before s.sizes (fact_of j) w in rw (s.found (fact_of j) o) (g.sane.below j p o l (rw (s.done j o) at h));
+    };
+    sound = λ f p w l h. g.sound f p w l (rw (s.found f (on g.goes f w)) at h);
     complete = λ js f p l r h.
-        rw (s.found f (conclusion_within v wf r (λ j m. (h j m).0)))
-        (g.complete js f p l r (λ j m. let t = h j m in (t.0, rw (s.done j t.0) at t.1)));
+        rw (s.found f (on g.goes f (conclusion_within v wf r (λ j m. (h j m).0))))
+        (g.complete js f p l r (λ j m. let t = h j m in (t.0, rw (s.done j (on g.goes (fact_of j) t.0)) at t.1)));
   }
 
-  pub tally_same : {a b : Board} {us : List (Job × ℕ)} → SameGrades (length v.concepts) v.roles a b → Tally v k a us → Tally v k b us
-  tally_same s t = record {
+  pub tally_same : {a b : Board} {us : List (Job × ℕ)} → GoesWith v a → SameGrades a b → Tally v k a us → Tally v k b us
+  tally_same g s t = record {
     distinct = t.distinct;
-    each = λ u m. let d = t.each u m in (d.0, d.1, rw (s.done u.0 (at_within v d.0.1)) d.2);
-    all = λ one j c at h. t.all one j c at (rw (s.done j (at_within v at)) at h);
+    each = λ u m. let d = t.each u m in (d.0, d.1, rw (s.done u.0 (on g (fact_of u.0) (at_within v d.0.1))) d.2);
+    all = λ one j c at h. t.all one j c at (rw (s.done j (on g (fact_of j) (at_within v at))) at h);
     count = s.steps ∙ t.count;
   }
 
-  module _ (m : Moment) (made : Made v k m) where
+  module _ {Y : Type 0} {S : Shape Y} {p : Y} (m : Moment Y) (made : Made v k S p m) where
     abbrev new : Board
     new = m.board
 
@@ -87,10 +87,11 @@ module _ (v : Vocabulary) (wf : WellFormed v) (k : Kind) (lawful : Lawful k) whe
 
     pub made_good : Good v k new
     made_good = record {
+      goes = made.goes;
       sane = record {
-        found = λ f w. elim (made_found f w) [ inl t ↦ rw t.1 lawful.all_code | inr e ↦ rw e lawful.none_code ];
-        done = λ j w. rw (made.undone j w) lawful.none_code;
-        below = λ j p w l h. absurd (not_done j p w h);
+        found = λ f w. elim (made_found f (within made.goes f w)) [ inl t ↦ rw t.1 lawful.all_code | inr e ↦ rw e lawful.none_code ];
+        done = λ j w. rw (made.undone j (within made.goes (fact_of j) w)) lawful.none_code;
+        below = λ j p w l h. absurd (not_done j p (within made.goes (fact_of j) w) h);
       };
       sound = λ f p w l h. elim (made_found f w) [
         | inl t ↦ subst (Derivable v (λ code. k.holds code p)) (sym t.0.2) (by (start t.0.1) (λ j n. absurd (Memᴰ.not-nil n)))
@@ -110,45 +111,45 @@ module _ (v : Vocabulary) (wf : WellFormed v) (k : Kind) (lawful : Lawful k) whe
       count = made.no_steps;
     }
 
-  module _ (c : ℕ) (j : Job) (m n : Moment) (w : Worked v k c j m n) (g : Good v k m.board) where
-    abbrev a : Board
-    a = m.board
-
-    abbrev b : Board
-    b = n.board
-
+  module _ (c : ℕ) (j : Job) (a b : Board) (deed : JobDone v k c j a b) (g : Good v k a) where
     here : Within v (fact_of j)
-    here = at_within v w.deed.first.at
+    here = at_within v deed.first.at
+
+    goes : GoesWith v b
+    goes = goes_then g.goes deed.sizes
 
     done_after : (i : Job) → Within v (fact_of i) → ((i ≡ j) × (b.done i ≡ a.found (fact_of i))) ⊎ ((i ≡ j → ⊥) × (b.done i ≡ a.done i))
-    done_after i t = elim (same_job i j) [ inl e ↦ inl (e, subst (λ (x : Job). b.done x ≡ a.found (fact_of x)) (sym e) w.deed.marked) | inr d ↦ inr (d, w.deed.unmarked i t d) ]
+    done_after i t = elim (same_job i j) [ inl e ↦ inl (e, subst (λ (x : Job). b.done x ≡ a.found (fact_of x)) (sym e) deed.marked) | inr d ↦ inr (d, deed.unmarked i (on g.goes (fact_of i) t) d) ]
 
     done_found : (i : Job) (p : ℕ) → Within v (fact_of i) → p < k.points → k.holds (b.done i) p ≡ true → k.holds (a.found (fact_of i)) p ≡ true
-    done_found i p t l h = elim (done_after i t) [ inl e ↦ rw e.1 at h | inr e ↦ g.sane.below i p t l (rw e.1 at h) ]
+    done_found i p t l h = elim (done_after i t) [ inl e ↦ rw e.1 at h | inr e ↦ g.sane.below i p (on g.goes (fact_of i) t) l (rw e.1 at h) ]
 
     done_kept : (i : Job) (p : ℕ) → Within v (fact_of i) → p < k.points → k.holds (a.done i) p ≡ true → k.holds (b.done i) p ≡ true
-    done_kept i p t l h = elim (done_after i t) [ inl e ↦ rw e.1 (g.sane.below i p t l h) | inr e ↦ rw e.1 h ]
+    done_kept i p t l h = elim (done_after i t) [ inl e ↦ rw e.1 (g.sane.below i p (on g.goes (fact_of i) t) l h) | inr e ↦ rw e.1 h ]
 
-    pub worked_good : Good v k b
-    worked_good = record {
+    pub worked_good : ((f : Fact) → On a f → b.found f < k.codes) → Good v k b
+    worked_good codes = record {
+      goes = goes;
       sane = record {
-        found = w.codes;
-        done = λ i t. elim (done_after i t) [ inl e ↦ rw e.1 (g.sane.found (fact_of i) t) | inr e ↦ rw e.1 (g.sane.done i t) ];
-        below = λ i p t l h. w.deed.grows.kept (fact_of i) p t l (done_found i p t l h);
+        found = λ f t. codes f (on_before deed.sizes f t);
+        done = λ i t.
+            let o = on_before deed.sizes (fact_of i) t in
+            elim (done_after i (within goes (fact_of i) t)) [ inl e ↦ rw e.1 (g.sane.found (fact_of i) o) | inr e ↦ rw e.1 (g.sane.done i o) ];
+        below = λ i p t l h. let o = within goes (fact_of i) t in deed.grows.kept (fact_of i) p o l (done_found i p o l h);
       };
-      sound = λ f p t l h. elim (w.deed.grows.only f p t l h) [
+      sound = λ f p t l h. elim (deed.grows.only f p t l h) [
         | inl q ↦ g.sound f p t l q
         | inr d ↦ by d.1 (λ i o. let q = premises_within v wf d.1 t j d.2 here i o in g.sound (fact_of i) p q l (done_found i p q l (d.3 i o)))
       ];
       complete = λ js f p l r h. let t = conclusion_within v wf r (λ i o. (h i o).0) in elim (member j js) [
-        | inl o ↦ w.deed.grows.drew f p t l (js, r, o, (λ i q. (h i q).1))
-        | inr d ↦ w.deed.grows.kept f p t l (g.complete js f p l r (λ i o. let q = h i o in (q.0, rw (w.deed.unmarked i q.0 (λ e. d (Memᴰ.cast (sym e) o))) at q.1)))
+        | inl o ↦ deed.grows.drew f p t l (js, r, o, (λ i q. (h i q).1))
+        | inr d ↦ deed.grows.kept f p t l (g.complete js f p l r (λ i o. let q = h i o in (q.0, rw (deed.unmarked i (on g.goes (fact_of i) q.0) (λ e. d (Memᴰ.cast (sym e) o))) at q.1)))
       ];
     }
 
     new_point : Gap k.points (k.holds (a.done j)) (k.holds (a.found (fact_of j)))
-    new_point = elim (gap k.points (k.holds (a.done j)) (k.holds (a.found (fact_of j))) (λ p l. g.sane.below j p here l)) [
-      | inl e ↦ absurd (w.deed.first.waits (lawful.same (a.done j) (a.found (fact_of j)) (g.sane.done j here) (g.sane.found (fact_of j) here) e))
+    new_point = let o = on g.goes (fact_of j) here in elim (gap k.points (k.holds (a.done j)) (k.holds (a.found (fact_of j))) (λ p l. g.sane.below j p o l)) [
+      | inl e ↦ absurd (deed.first.waits (lawful.same (a.done j) (a.found (fact_of j)) (g.sane.done j o) (g.sane.found (fact_of j) o) e))
       | inr t ↦ t
     ]
 
@@ -171,7 +172,7 @@ module _ (v : Vocabulary) (wf : WellFormed v) (k : Kind) (lawful : Lawful k) whe
 
         each : (u : Job × ℕ) → Memᴰ u ((j, p) ∷ us) → Done v k b u
         each u o = elim (Memᴰ.cases_cons o) [
-          | inl e ↦ subst (Done v k b) (sym e) ((c, w.deed.first.at), new_point.1, rw w.deed.marked new_point.3)
+          | inl e ↦ subst (Done v k b) (sym e) ((c, deed.first.at), new_point.1, rw deed.marked new_point.3)
           | inr q ↦ let d = t.each u q in (d.0, d.1, done_kept u.0 u.1 (at_within v d.0.1) d.1 d.2)
         ]
 
@@ -185,4 +186,4 @@ module _ (v : Vocabulary) (wf : WellFormed v) (k : Kind) (lawful : Lawful k) whe
         count =
             let few = few_pairs v k us t.distinct (λ u o. let d = t.each u o in (at_within v d.0.1, d.1)) in
             let most = pairs_small v k wf lawful in
-            let x = w.deed.counted in let y = t.count in omega arith
+            let x = deed.counted in let y = t.count in omega arith

@@ -1,5 +1,6 @@
 pub mod Lists
 pub mod Numbers
+pub mod Sizes
 pub mod Good
 pub mod Places
 pub mod Busy
@@ -8,3 +9,5 @@ pub mod OneAnswer
 pub mod Finish
 pub mod Truths
 pub mod Deciding
+pub mod Seeing
+pub mod Becoming

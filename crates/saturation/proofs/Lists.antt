@@ -3,7 +3,7 @@ use Rattle.std.proofs.Common.{◌≡◌, ℕ, zero, suc, ◌<◌, ◌≤◌, ◌
 use mathlib.Core.List.Memᴰ
 use mathlib.Core.List.{Memᴰ}
 use Rattle.std.proofs.lemmas.Bool.{cases_eq}
-use Rattle.saturation.specs.AnyOrder.{Distinct}
+use Rattle.piles.specs.Shapes.{Distinct}
 use Rattle.saturation.specs.Answers.{Ascending}
 
 -- two ascending lists, the entries of the first before those of the second
@@ -15,14 +15,14 @@ ascending_behind R (x ∷ xs) ys a b h = (
 )
 
 module _ {A : Type 0} (P : A → Type 0) (code : A → ℕ) (apart : (x y : A) → P x → P y → code x ≡ code y → x ≡ y) where
-  abbrev Below : ℕ → List A → Type 0
-  Below n xs = (x : A) → Memᴰ x xs → P x × (code x < n)
+  abbrev NumberedBelow : ℕ → List A → Type 0
+  NumberedBelow n xs = (x : A) → Memᴰ x xs → P x × (code x < n)
 
   -- all entries but the one whose number is n
   abbrev Rest : ℕ → List A → Type 0
-  Rest n xs = (ys : List A) × Distinct ys × ((y : A) → Memᴰ y ys → Memᴰ y xs) × Below n ys × (length xs ≤ suc (length ys))
+  Rest n xs = (ys : List A) × Distinct ys × ((y : A) → Memᴰ y ys → Memᴰ y xs) × NumberedBelow n ys × (length xs ≤ suc (length ys))
 
-  rest : (n : ℕ) (xs : List A) → Distinct xs → Below (suc n) xs → Rest n xs
+  rest : (n : ℕ) (xs : List A) → Distinct xs → NumberedBelow (suc n) xs → Rest n xs
   rest n [] d h = ([], tt, (λ y m. m), (λ y m. absurd (Memᴰ.not-nil m)), omega arith)
   rest n (x ∷ xs) d h = step (cases_eq (code x) n) (rest n xs d.1 (λ y m. h y (Memᴰ.tail m)))
     where
@@ -45,7 +45,7 @@ module _ {A : Type 0} (P : A → Type 0) (code : A → ℕ) (apart : (x y : A) �
             omega arith,
           )
 
-  pub few : (n : ℕ) (xs : List A) → Distinct xs → Below n xs → length xs ≤ n
+  pub few : (n : ℕ) (xs : List A) → Distinct xs → NumberedBelow n xs → length xs ≤ n
   few zero [] d h = omega arith
   few zero (x ∷ xs) d h = let t = h x (Memᴰ.head refl) in omega arith
   few (suc n) xs d h = let r = rest n xs d h in let t = few n r.0 r.1 r.3 in let u : length xs ≤ suc (length r.0) = r.4 in omega arith

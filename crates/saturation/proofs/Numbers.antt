@@ -7,7 +7,8 @@ use Rattle.terms.specs.Vocabularies.{Vocabulary, WellFormed}
 use Rattle.reasoning.specs.declared.Job.{Job}
 use Rattle.reasoning.specs.declared.Job.TheVariants.{Own as own, Link as link, Imply as imply}
 use Rattle.reasoning.specs.Derivations.{fact_of, Within}
-use Rattle.saturation.specs.AnyOrder.{Distinct, possible_pairs}
+use Rattle.piles.specs.Shapes.{Distinct}
+use Rattle.saturation.specs.AnyOrder.{possible_pairs}
 use Rattle.saturation.proofs.Lists.{few}
 
 -- a job by its sort and role, its left concept and its right concept

@@ -3,6 +3,7 @@ use Rattle.std.proofs.Common.{◌≡◌, ℕ, ◌<◌, List}
 use Rattle.std.proofs.lemmas.Bool.Decides.{same_from_decides}
 use Rattle.grades.specs.Kinds.{Kind, Lawful}
 use Rattle.terms.specs.Vocabularies.{Vocabulary, Named}
+use Rattle.piles.specs.Shapes.{Shape}
 use Rattle.saturation.specs.Answers.{FoundUnder, TrulyUnder, Grade, Mate, Between, Parent, ListOf, QuietAnswersTrue}
 use Rattle.saturation.proofs.OneAnswer.{any_order}
 
@@ -31,9 +32,9 @@ parent v h a b i m =
 listed : {P Q : ℕ → Type 0} {xs : List ℕ} → ((x : ℕ) → P x → Q x) → ((x : ℕ) → Q x → P x) → ListOf P xs → ListOf Q xs
 listed f g l = record { ascending = l.ascending; each = λ x m. f x (l.each x m); every = λ x q. l.every x (g x q) }
 
-pub quiet_answers_true : QuietAnswersTrue
-quiet_answers_true k lawful v wf es m h q =
-    let t = ((any_order k lawful v wf).0 es m h).true_in_models q in
+pub quiet_answers_true : {Y : Type 0} (S : Shape Y) → QuietAnswersTrue S
+quiet_answers_true S k lawful v wf es m h q =
+    let t = ((any_order S S k lawful v wf).0 es m h).true_in_models q in
     let agree : (p : ℕ) → p < k.points → Agree v (FoundUnder k m.board p) (TrulyUnder v k p) = λ p l a d i j. t a d i j.0 p l in
     record {
       under_true = t;

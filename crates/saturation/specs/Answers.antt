@@ -5,6 +5,7 @@ use Rattle.grades.specs.Kinds.{Kind, Lawful, on_at}
 use Rattle.terms.specs.Vocabularies.{Vocabulary, Named, WellFormed}
 use Rattle.reasoning.specs.declared.Fact.TheVariants.{Under as under}
 use Rattle.reasoning.specs.Models.{Entails}
+use Rattle.piles.specs.Shapes.{Shape}
 use Rattle.saturation.specs.Boards.{Board, Moment, Quiet}
 use Rattle.saturation.specs.Histories.{Event, History}
 
@@ -62,6 +63,6 @@ pub record AnswersTrue (v : Vocabulary) (k : Kind) (b : Board) : Type 0 where
   pub mates_true : (a p : ℕ) (xs : List ℕ) → Named v a → p < k.points → ListOf (Mate v (FoundUnder k b p) a) xs → ListOf (Mate v (TrulyUnder v k p) a) xs
   pub parents_true : (a p : ℕ) (xs : List ℕ) → Named v a → p < k.points → ListOf (Parent v (FoundUnder k b p) a) xs → ListOf (Parent v (TrulyUnder v k p) a) xs
 
--- whatever was called, in whatever order: what a board on which no job waits answers is what all finite models say
-abbrev pub QuietAnswersTrue : Type 0
-QuietAnswersTrue = (k : Kind) → Lawful k → (v : Vocabulary) → WellFormed v → (es : List Event) (m : Moment) → History v k es m → Quiet v m.board → AnswersTrue v k m.board
+-- whatever was called, in whatever order, over whatever pile: what a board on which no job waits answers is what all finite models say
+abbrev pub QuietAnswersTrue : {Y : Type 0} → Shape Y → Type 0
+QuietAnswersTrue {Y} S = (k : Kind) → Lawful k → (v : Vocabulary) → WellFormed v → (es : List Event) (m : Moment Y) → History v k S es m → Quiet v m.board → AnswersTrue v k m.board

@@ -1,34 +1,60 @@
--- What a board says: the found grade of each fact, the done grade of each job, each concept's state, and the count of steps.
-use Rattle.std.specs.Prelude.{◌≡◌, ℕ, ◌<◌, Bool, true, List, Option, MatchOption, ◌≢◌}
+-- What a board says: its sizes, the found grade of each fact, the done grade of each job, each concept's state, and the count of steps; and a
+-- moment, a board and its pile.
+use Rattle.std.specs.Prelude.{◌≡◌, ℕ, ◌<◌, ◌≤◌, true, List, length, Option, MatchOption, ◌≢◌}
 use mathlib.Core.List.{Memᴰ}
 use Rattle.grades.specs.Kinds.{Kind, on_at}
+use Rattle.piles.specs.Shapes.{Shape}
 use Rattle.terms.specs.Vocabularies.{Vocabulary}
 use Rattle.reasoning.specs.declared.Fact.{Fact}
 use Rattle.reasoning.specs.declared.Job.{Job}
-use Rattle.reasoning.specs.declared.Job.TheVariants.{Own as own, Link as link, Imply as imply}
+use Rattle.reasoning.specs.Parts.{parts_of, rank}
 use Rattle.reasoning.specs.Derivations.{Fits, fact_of, Rule, JobAt}
 use Rattle.saturation.specs.declared.State.{State}
 use Rattle.saturation.specs.declared.State.TheVariants.{Idle, Queued}
 
 -- a board, as its users see it
 pub record Board : Type 0 where
+  pub concepts : ℕ
+  pub roles : ℕ
   pub found : Fact → ℕ
   pub done : Job → ℕ
   pub state : ℕ → State
   pub steps : ℕ
 
--- a board and its pile, by the set that the pile holds
-pub record Moment : Type 0 where
+-- a board and its pile, in whatever state that is
+pub record Moment (Y : Type 0) : Type 0 where
   pub board : Board
-  pub pile : ℕ → Bool
+  pub pile : Y
+
+-- the board has the vocabulary's concepts and roles
+pub record GoesWith (v : Vocabulary) (b : Board) : Type 0 where
+  pub concepts : b.concepts ≡ length v.concepts
+  pub roles : b.roles ≡ v.roles
+
+-- the board has the sizes that it had
+pub record SameSizes (a b : Board) : Type 0 where
+  pub concepts : b.concepts ≡ a.concepts
+  pub roles : b.roles ≡ a.roles
+
+-- the fact is one of the board's concepts and roles
+abbrev pub On : Board → Fact → Type 0
+On b f = Fits b.concepts b.roles f
+
+-- the pile holds x
+abbrev pub InPile : {Y : Type 0} → Shape Y → ℕ → Moment Y → Type 0
+InPile S x m = (S.numbers m.pile).holds x ≡ true
 
 -- x is queued, and in the pile
-abbrev pub InLine : ℕ → Moment → Type 0
-InLine x m = (m.board.state x ≡ Queued) × (m.pile x ≡ true)
+abbrev pub InLine : {Y : Type 0} → Shape Y → ℕ → Moment Y → Type 0
+InLine S x m = (m.board.state x ≡ Queued) × InPile S x m
 
--- x is as it was
-abbrev pub Stays : ℕ → Moment → Moment → Type 0
-Stays x a b = (b.board.state x ≡ a.board.state x) × (b.pile x ≡ a.pile x)
+-- the pile has room for the board's concepts
+abbrev pub Wide : {Y : Type 0} → Shape Y → Moment Y → Type 0
+Wide S m = m.board.concepts ≤ (S.numbers m.pile).size
+
+-- the number is not queued on the board
+abbrev pub Unqueued : Board → ℕ → Type 0
+Unqueued b x = x < b.concepts → b.state x ≢ Queued
 
 -- the job rests: its done grade is the found grade of its fact
 abbrev pub Rests : Board → Job → Type 0
@@ -46,16 +72,14 @@ QuietAt v b c = (j : Job) → JobAt v j c → Rests b j
 abbrev pub Quiet : Vocabulary → Board → Type 0
 Quiet v b = (j : Job) (c : ℕ) → JobAt v j c → Rests b j
 
--- own jobs by right concept, then link jobs by left and right concept, then implication jobs by role and right concept
-pub data Before : Job → Job → Type 0 where
-  own_own : {c d d' : ℕ} → d < d' → Before (own c d) (own c d')
-  own_link : {c d a x : ℕ} → Before (own c d) (link a x)
-  own_imply : {c d s a e : ℕ} → Before (own c d) (imply s a e)
-  link_left : {a a' x x' : ℕ} → a < a' → Before (link a x) (link a' x')
-  link_right : {a x x' : ℕ} → x < x' → Before (link a x) (link a x')
-  link_imply : {a x s c e : ℕ} → Before (link a x) (imply s c e)
-  imply_role : {s s' c e e' : ℕ} → s < s' → Before (imply s c e) (imply s' c e')
-  imply_right : {s c e e' : ℕ} → e < e' → Before (imply s c e) (imply s c e')
+-- own jobs come before link jobs and these before implication jobs; of one sort, jobs come by role, then by left and then by right concept: at one
+-- concept own jobs by right concept, link jobs by left and right concept, implication jobs by role and right concept
+pub data Before (i j : Job) : Type 0 where
+  by_sort : rank (parts_of i).sort < rank (parts_of j).sort → Before i j
+  by_role : rank (parts_of i).sort ≡ rank (parts_of j).sort → (parts_of i).role < (parts_of j).role → Before i j
+  by_left : rank (parts_of i).sort ≡ rank (parts_of j).sort → (parts_of i).role ≡ (parts_of j).role → (parts_of i).left < (parts_of j).left → Before i j
+  by_right : rank (parts_of i).sort ≡ rank (parts_of j).sort → (parts_of i).role ≡ (parts_of j).role → (parts_of i).left ≡ (parts_of j).left →
+      (parts_of i).right < (parts_of j).right → Before i j
 
 -- the job is the first that waits at the concept
 pub record First (v : Vocabulary) (b : Board) (c : ℕ) (j : Job) : Type 0 where
@@ -83,8 +107,8 @@ Stirred v a b x = (j : Job) × JobAt v j x × Changed a b j × Waits b j
 abbrev pub Missed : Vocabulary → Board → ℕ → Type 0
 Missed v b c = (b.state c ≡ Idle) × ((j : Job) × JobAt v j c × Waits b j)
 
--- the grades of n concepts and m roles are codes of the kind, and no job is done at a point where its fact is not found
-pub record Sane (n m : ℕ) (k : Kind) (b : Board) : Type 0 where
-  pub found : (f : Fact) → Fits n m f → b.found f < k.codes
-  pub done : (j : Job) → Fits n m (fact_of j) → b.done j < k.codes
-  pub below : (j : Job) (p : ℕ) → Fits n m (fact_of j) → p < k.points → k.holds (b.done j) p ≡ true → k.holds (b.found (fact_of j)) p ≡ true
+-- the grades are codes of the kind, and no job is done at a point where its fact is not found
+pub record Sane (k : Kind) (b : Board) : Type 0 where
+  pub found : (f : Fact) → On b f → b.found f < k.codes
+  pub done : (j : Job) → On b (fact_of j) → b.done j < k.codes
+  pub below : (j : Job) (p : ℕ) → On b (fact_of j) → p < k.points → k.holds (b.done j) p ≡ true → k.holds (b.found (fact_of j)) p ≡ true

@@ -1,5 +1,5 @@
 -- Tests of what the questions answer, over a test of "lies under".
-use Rattle.std.specs.Prelude.{ℕ, Bool, not, ◌&&◌, ◌==◌}
+use Rattle.std.specs.Prelude.{ℕ, Bool, not, ◌&&◌, length, ◌==◌}
 use Rattle.lemmas.specs.Tests.{every}
 use Rattle.terms.specs.Vocabularies.{Vocabulary, is_named}
 
@@ -15,10 +15,10 @@ between_test v under a b c = is_named v c && (under a c && (under c b && (not (u
 abbrev pub lowest_test : Vocabulary → (ℕ → ℕ → Bool) → ℕ → Bool
 lowest_test v under b = every b (λ c. not (mate_test v under b c))
 
--- none of n concepts lies between a and b
-abbrev pub nothing_between_test : ℕ → Vocabulary → (ℕ → ℕ → Bool) → ℕ → ℕ → Bool
-nothing_between_test n v under a b = every n (λ c. not (between_test v under a b c))
+-- no concept lies between a and b
+abbrev pub nothing_between_test : Vocabulary → (ℕ → ℕ → Bool) → ℕ → ℕ → Bool
+nothing_between_test v under a b = every (length v.concepts) (λ c. not (between_test v under a b c))
 
--- the test of Parent, among n concepts
-abbrev pub parent_test : ℕ → Vocabulary → (ℕ → ℕ → Bool) → ℕ → ℕ → Bool
-parent_test n v under a b = is_named v b && (under a b && (not (under b a) && (lowest_test v under b && nothing_between_test n v under a b)))
+-- the test of Parent
+abbrev pub parent_test : Vocabulary → (ℕ → ℕ → Bool) → ℕ → ℕ → Bool
+parent_test v under a b = is_named v b && (under a b && (not (under b a) && (lowest_test v under b && nothing_between_test v under a b)))

@@ -1,43 +1,36 @@
 -- What a run does, by the takes, steps, lowerings and rechecks inside it. Events stand latest first.
-use Rattle.std.specs.Prelude.{◌≡◌, ℕ, ◌+◌, ◌-◌, ◌<◌, true, false, ◌⊎◌, List, [], ◌∷◌, ◌++◌, length, ◌≢◌}
-use Rattle.lemmas.specs.Tests.{Nowhere}
+use Rattle.std.specs.Prelude.{◌≡◌, ℕ, ◌+◌, ◌-◌, ◌<◌, List, [], ◌∷◌, ◌++◌, None}
 use Rattle.grades.specs.Kinds.{Kind}
+use Rattle.piles.specs.Sets.{Empty}
+use Rattle.piles.specs.Shapes.{Shape}
 use Rattle.terms.specs.Vocabularies.{Vocabulary}
 use Rattle.reasoning.specs.declared.Job.{Job}
-use Rattle.saturation.specs.declared.State.TheVariants.{Queued}
 use Rattle.saturation.specs.declared.Outcome.{Outcome}
 use Rattle.saturation.specs.declared.Outcome.TheVariants.{Finished, Spent, Left}
-use Rattle.saturation.specs.Boards.{Board, Moment, Quiet, QuietAt}
-use Rattle.saturation.specs.Effects.{Took, Worked, Lowered, Rechecked, Unchanged}
-use Rattle.saturation.specs.Histories.{Event, took, worked, lowered, rechecked, other}
+use Rattle.saturation.specs.Boards.{Moment, Quiet, QuietAt}
+use Rattle.saturation.specs.Effects.{Took, Returned, Worked, Lowered, Rechecked}
+use Rattle.saturation.specs.Histories.{Event, took, returned, worked, lowered, rechecked, other}
 
 -- steps at the leased concept, by their number, until no job waits there or the budget is used
-pub data Exhausts (v : Vocabulary) (k : Kind) (c : ℕ) : ℕ → ℕ → List Event → Moment → Moment → Type 0 where
-  quiet : {budget : ℕ} {a : Moment} → QuietAt v a.board c → Exhausts v k c budget 0 [] a a
-  spent : {a : Moment} → Exhausts v k c 0 0 [] a a
-  step : {budget steps : ℕ} {j : Job} {es : List Event} {a b z : Moment} → Worked v k c j a b → Exhausts v k c budget steps es b z → Exhausts v k c (budget + 1) (steps + 1) (es ++ worked c j ∷ []) a z
+pub data Exhausts {Y : Type 0} (v : Vocabulary) (k : Kind) (S : Shape Y) (c : ℕ) : ℕ → ℕ → List Event → Moment Y → Moment Y → Type 0 where
+  quiet : {budget : ℕ} {a : Moment Y} → QuietAt v a.board c → Exhausts v k S c budget 0 [] a a
+  spent : {a : Moment Y} → Exhausts v k S c 0 0 [] a a
+  step : {budget steps : ℕ} {j : Job} {es : List Event} {a b z : Moment Y} → Worked v k S c j a b → Exhausts v k S c budget steps es b z →
+      Exhausts v k S c (budget + 1) (steps + 1) (es ++ worked c j ∷ []) a z
 
--- the pile holds nothing
-abbrev pub EmptyPile : Moment → Type 0
-EmptyPile a = Nowhere a.pile
+-- what an outcome says of the moment at which a run ends, with so much of its budget left: finished, no job waits; spent, a job waits, and the
+-- budget is used; left, a job waits, and the budget is not used (then there is nothing to take)
+abbrev pub Ended : {Y : Type 0} → Vocabulary → Outcome → ℕ → Moment Y → Type 0
+Ended v Finished budget a = Quiet v a.board
+Ended v Spent budget a = (¬ Quiet v a.board) × (budget ≡ 0)
+Ended v Left budget a = (¬ Quiet v a.board) × (0 < budget)
 
--- the number is not queued on this board of n concepts
-abbrev pub Unqueued : ℕ → Board → ℕ → Type 0
-Unqueued n b x = x < n → b.state x ≢ Queued
-
--- the pile holds a number that is not queued
-abbrev pub NotQueued : ℕ → Moment → Type 0
-NotQueued n a = (x : ℕ) × (a.pile x ≡ true) × Unqueued n a.board x
-
--- there is nothing to take: the pile is empty, or gives a number that is not queued
-abbrev pub NothingToTake : ℕ → Moment → Type 0
-NothingToTake n a = EmptyPile a ⊎ NotQueued n a
-
--- the whole run: outcome and steps, and the events inside
-pub data Runs (v : Vocabulary) (k : Kind) : ℕ → Outcome → ℕ → List Event → Moment → Moment → Type 0 where
-  finished : {budget : ℕ} {a : Moment} → Quiet v a.board → Runs v k budget Finished 0 [] a a
-  spent : {a : Moment} → (Quiet v a.board → ⊥) → Runs v k 0 Spent 0 [] a a
-  left : {budget : ℕ} {a b : Moment} → (Quiet v a.board → ⊥) → 0 < budget → NothingToTake (length v.concepts) a → Unchanged (length v.concepts) v.roles a b → Runs v k budget Left 0 (other ∷ []) a b
-  turn : {budget steps more c : ℕ} {o : Outcome} {es fs : List Event} {a b d e f z : Moment} → (Quiet v a.board → ⊥) → 0 < budget →
-      Took (length v.concepts) v.roles c a b → Exhausts v k c budget steps es b d → Lowered (length v.concepts) v.roles c d e → Rechecked v c e f →
-      Runs v k (budget - steps) o more fs f z → Runs v k budget o (steps + more) (fs ++ rechecked c ∷ lowered c ∷ (es ++ took c ∷ [])) a z
+-- the whole run: outcome and steps, and the events inside. It ends as left only where the pile's front is not queued, or where there is none
+pub data Runs {Y : Type 0} (v : Vocabulary) (k : Kind) (S : Shape Y) : ℕ → Outcome → ℕ → List Event → Moment Y → Moment Y → Type 0 where
+  finished : {budget : ℕ} {a : Moment Y} → Ended v Finished budget a → Runs v k S budget Finished 0 [] a a
+  spent : {budget : ℕ} {a : Moment Y} → Ended v Spent budget a → Runs v k S budget Spent 0 [] a a
+  left : {budget x : ℕ} {a b : Moment Y} → Ended v Left budget a → Returned S x a b → Runs v k S budget Left 0 (returned x ∷ []) a b
+  dry : {budget : ℕ} {a : Moment Y} → Ended v Left budget a → S.front a.pile ≡ None → Empty (S.numbers a.pile) → Runs v k S budget Left 0 (other ∷ []) a a
+  turn : {budget steps more c : ℕ} {o : Outcome} {es fs : List Event} {a b d e f z : Moment Y} → ¬ Quiet v a.board → 0 < budget →
+      Took S c a b → Exhausts v k S c budget steps es b d → Lowered c d.board e.board → e.pile ≡ d.pile → Rechecked v S c e f →
+      Runs v k S (budget - steps) o more fs f z → Runs v k S budget o (steps + more) (fs ++ rechecked c ∷ lowered c ∷ (es ++ took c ∷ [])) a z

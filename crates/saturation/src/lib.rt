@@ -2,8 +2,11 @@
 //! shared state of one saturation. The functions here do nothing; each carries a theorem in its contract.
 #![tactic(auto)]
 
+ghost use Rattle.piles.specs.Shapes.{any_pile};
 ghost use Rattle.saturation.specs.Answers.{QuietAnswersTrue};
-ghost use Rattle.saturation.specs.AnyOrder.{AnyOrder, FreshRunFinishes, QueuedWaits, RunsFinish, RunsLead};
+ghost use Rattle.saturation.specs.AnyOrder.{AnyOrder, FreshRunFinishes, HistoriesSeen, QueuedWaits, RunsFinish, RunsLead};
+
+use piles::pile::Pile;
 
 /// How a concept stands on a board.
 #[derive(Clone, Copy, PartialEq, Eq, Debug)]
@@ -27,34 +30,41 @@ pub enum Outcome {
     Left,
 }
 
-/// Whatever the number of workers and the order of calls: leases add up, no waiting job is out of sight, a quiet board says what every
-/// finite model says, its steps are bounded by the derivable pairs of job and point, and any two quiet boards found the same grades.
-pub fn any_order_gives_one_answer()
-    ensures { AnyOrder }
+/// Whatever the pile, the number of workers and the order of calls: leases add up, no waiting job is out of sight, a quiet board says what
+/// every finite model says, its steps are bounded by the derivable pairs of job and point, and any two quiet boards, even over different
+/// piles, found the same grades. That holds too where no more is known of a pile than every pile shows.
+pub fn any_order_gives_one_answer<P: Pile, Q: Pile>()
+    ensures piles { AnyOrder P.shape Q.shape }
+    ensures seen { AnyOrder any_pile any_pile }
+{}
+
+/// Every list of calls over a pile is one over what is seen of the pile, of which questions speak, since they name no pile.
+pub fn histories_are_seen<P: Pile>()
+    ensures { HistoriesSeen P.shape }
 {}
 
 /// Whatever was called, in whatever order: under, mates and parents on a board on which no job waits are those of all finite models.
-pub fn quiet_answers_are_true()
-    ensures { QuietAnswersTrue }
+pub fn quiet_answers_are_true<P: Pile>()
+    ensures { QuietAnswersTrue P.shape }
 {}
 
 /// A run is a chain of the effects of the takes, steps, lowerings and rechecks inside it.
-pub fn runs_are_chains_of_effects()
-    ensures { RunsLead }
+pub fn runs_are_chains_of_effects<P: Pile>()
+    ensures { RunsLead P.shape }
 {}
 
 /// A fresh board and one run with a budget of at least the possible pairs of job and point end as finished.
-pub fn fresh_runs_finish()
-    ensures { FreshRunFinishes }
+pub fn fresh_runs_finish<P: Pile>()
+    ensures { FreshRunFinishes P.shape }
 {}
 
 /// After any list of calls, no queued concept is quiet.
-pub fn queued_concepts_have_work()
-    ensures { QueuedWaits }
+pub fn queued_concepts_have_work<P: Pile>()
+    ensures { QueuedWaits P.shape }
 {}
 
 /// A fresh board is at rest, and whatever led to a board at rest, one run with a budget of at least the possible pairs of job and point ends
 /// as finished, with every concept idle and nothing in the pile.
-pub fn runs_finish()
-    ensures { RunsFinish }
+pub fn runs_finish<P: Pile>()
+    ensures { RunsFinish P.shape }
 {}

@@ -1,52 +1,60 @@
 -- What workers that share a board lead to.
-use Rattle.std.specs.Prelude.{◌≡◌, ℕ, ◌<◌, false, List, [], ◌∷◌, length, ◌≢◌}
+use Rattle.std.specs.Prelude.{◌≡◌, ℕ, ◌<◌, false, List, [], ◌∷◌, ◌++◌, length, Ok, Err, Result, ◌≢◌}
+use Rattle.rejections.specs.declared.Rejection.{Rejection}
+use Rattle.rejections.specs.declared.Rejection.TheVariants.{NotQueued}
 use Rattle.grades.specs.Kinds.{Kind}
-use Rattle.piles.specs.Sets.{Numbers}
+use Rattle.piles.specs.Shapes.{Shape, Acted}
 use Rattle.terms.specs.Vocabularies.{Vocabulary}
 use Rattle.saturation.specs.declared.State.TheVariants.{Held}
-use Rattle.saturation.specs.Boards.{Sane}
+use Rattle.saturation.specs.Boards.{Moment, GoesWith, Sane}
 use Rattle.saturation.specs.Histories.{Event, lowered, rechecked, Leads, History, granted, given_back, unrechecked}
 use Rattle.saturation.specs.AnyOrder.{AllDone}
 use Rattle.saturation.specs.Answers.{TrueGrades}
-use Rattle.board.specs.Stages.{OpenBoard, ClosedBoard}
-use Rattle.board.specs.Counts.{SameCounts}
-use Rattle.board.specs.Layout.{words_needed, KeptBeyond}
-use Rattle.board.specs.Views.{content_of, moment_of}
-use Rattle.board.specs.Frames.{Kept}
-use Rattle.board.specs.Raises.{Ready}
+use Rattle.board.specs.declared.tokens.Lease.{Lease}
+use Rattle.board.specs.Rejections.{Ready, InOrder}
+use Rattle.board.specs.Calls.{Unmade}
 
--- the board has the vocabulary's counts and sane grades, and the pile has room for its concepts
-pub record Workable {X Y : Type 0} (v : Vocabulary) (k : Kind) (numbers : Y → Numbers) (a : OpenBoard X) (p : Y) : Type 0 where
-  pub ready : Ready v numbers a p
-  pub sane : Sane (length v.concepts) v.roles k (content_of a)
-
--- these events lead from one board and its pile to another, over the same words, which goes on
-pub record LedBy {X Y : Type 0} (v : Vocabulary) (k : Kind) (numbers : Y → Numbers) (es : List Event) (a : OpenBoard X) (p : Y) (b : OpenBoard X) (q : Y) : Type 0 where
-  pub kept : Kept numbers a p b q
-  pub going : Workable v k numbers b q
-  pub led : Leads v k es (moment_of numbers a p) (moment_of numbers b q)
+-- these events lead from one moment to another, on which work can go on, and to the pile by some puts and draws
+pub record LedBy {Y : Type 0} (v : Vocabulary) (k : Kind) (S : Shape Y) (es : List Event) (a b : Moment Y) : Type 0 where
+  pub ready : Ready v S b
+  pub led : Leads v k S es a b
+  pub acted : Acted S a.pile b.pile
 
 -- the concept is lowered and rechecked, and what else is held stays held
-pub record GaveBack {X Y : Type 0} (v : Vocabulary) (k : Kind) (numbers : Y → Numbers) (c : ℕ) (a : OpenBoard X) (p : Y) (b : OpenBoard X) (q : Y) : Type 0 where
-  pub onward : LedBy v k numbers (rechecked c ∷ lowered c ∷ []) a p b q
-  pub held : (x : ℕ) → x < length v.concepts → (x ≢ c) → (content_of a).state x ≡ Held → (content_of b).state x ≡ Held
+pub record GaveBack {Y : Type 0} (v : Vocabulary) (k : Kind) (S : Shape Y) (c : ℕ) (a b : Moment Y) : Type 0 where
+  pub onward : LedBy v k S (rechecked c ∷ lowered c ∷ []) a b
+  pub held : (x : ℕ) → x < a.board.concepts → (x ≢ c) → a.board.state x ≡ Held → b.board.state x ≡ Held
 
 -- some events lead on, in which every lease taken is lowered and every lowering rechecked, and what was held before stays held
-pub record TookTurns {X Y : Type 0} (v : Vocabulary) (k : Kind) (numbers : Y → Numbers) (a : OpenBoard X) (p : Y) (b : OpenBoard X) (q : Y) : Type 0 where
+pub record TookTurns {Y : Type 0} (v : Vocabulary) (k : Kind) (S : Shape Y) (a b : Moment Y) : Type 0 where
   pub events : List Event
-  pub onward : LedBy v k numbers events a p b q
+  pub onward : LedBy v k S events a b
   pub balanced : granted events ≡ given_back events
   pub looked_at : (c : ℕ) → unrechecked c events ≡ false
-  pub held : (x : ℕ) → x < length v.concepts → (content_of a).state x ≡ Held → (content_of b).state x ≡ Held
+  pub held : (x : ℕ) → x < a.board.concepts → a.board.state x ≡ Held → b.board.state x ≡ Held
 
--- a board of the vocabulary that was made and worked on, with all the work done: its grades are codes, and those of named concepts the truth;
--- the further words and the pile's size are as before
-pub record WorkDone {X Y : Type 0} (v : Vocabulary) (k : Kind) (numbers : Y → Numbers) (words : List ℕ) (p : Y) (b : ClosedBoard X) (q : Y) : Type 0 where
-  pub counts : SameCounts v b.counts.concepts b.counts.roles
-  pub beyond : KeptBeyond (words_needed b.counts.concepts b.counts.roles) words b.words.now
-  pub size : (numbers q).size ≡ (numbers p).size
+-- what a making over the pile p and further events led to, with all the work done: the grades are codes, and those of named concepts the truth
+pub record WorkDone {Y : Type 0} (v : Vocabulary) (k : Kind) (S : Shape Y) (p : Y) (m : Moment Y) : Type 0 where
+  pub goes : GoesWith v m.board
   pub events : List Event
-  pub history : History v k events (moment_of numbers b q)
-  pub all_done : AllDone v (moment_of numbers b q)
-  pub sane : Sane (length v.concepts) v.roles k (content_of b)
-  pub truthful : TrueGrades v k (content_of b)
+  pub history : History v k S events m
+  pub over : history.before ≡ p
+  pub acted : Acted S p m.pile
+  pub all_done : AllDone v S m
+  pub sane : Sane k m.board
+  pub truthful : TrueGrades v k m.board
+
+-- the work is done on a making that is in order, or that is rejected
+pub data SharedBy {Y : Type 0} (v : Vocabulary) (k : Kind) (S : Shape Y) (words : List ℕ) (p : Y) (m : Moment Y) (after : List ℕ) : Type 0 where
+  done : InOrder v k (length words) (S.numbers p) → WorkDone v k S p m → SharedBy v k S words p m after
+  rejected : {e : Rejection} → Unmade v k S words p m after e → SharedBy v k S words p m after
+
+-- of the numbers in a ring's order, the first is leased and the others stay in their order; or it goes behind them; or all stay
+pub data TookFirst (before after : List ℕ) : Result Lease Rejection → Type 0 where
+  leased : {lease : Lease} → before ≡ lease.concept ∷ after → TookFirst before after (Ok lease)
+  behind : {x : ℕ} → (others : List ℕ) → before ≡ x ∷ others → after ≡ others ++ x ∷ [] → TookFirst before after (Err NotQueued)
+  rejected : {e : Rejection} → e ≢ NotQueued → after ≡ before → TookFirst before after (Err e)
+
+-- the numbers of the first order stay in their order, and any others come behind them
+abbrev pub ComesBehind : List ℕ → List ℕ → Type 0
+ComesBehind before after = (others : List ℕ) × (after ≡ before ++ others)

@@ -1,22 +1,28 @@
 //! Workers on one board, any number of them: callers that show how the contracts of the board's calls lead, entry by entry, to a history,
-//! and the theorem over histories to the meaning of the answer, which does not depend on how many workers there were.
+//! and the theorem over histories to the meaning of the answer, which does not depend on how many workers there were; and how a call's contract
+//! over any pile leads to what it makes of a ring's order or of the list under a table of marks.
 #![tactic(auto)]
 
-ghost use Rattle.std.specs.Prelude.{◌≡◌, length};
-ghost use Rattle.rejections.specs.declared.Rejection.{Rejection as Reason};
+ghost use Rattle.std.specs.Prelude.{◌≡◌, OnErr};
 ghost use Rattle.terms.specs.Views.{terms_of};
-ghost use Rattle.board.specs.Views.{content_of};
-ghost use Rattle.board.specs.Refusals.{IsHeld, InOrder, MakeRejected};
-ghost use Rattle.board.specs.Calls.{MadeEmpty};
-ghost use Rattle.sharing.specs.Sharing.{Workable, GaveBack, TookTurns, WorkDone};
+ghost use Rattle.piles.specs.Lists.{RestKept};
+ghost use Rattle.piles.specs.Orders.{order, ring_shape};
+ghost use Rattle.piles.specs.Tables.{marks_shape};
+ghost use Rattle.board.specs.Views.{view, moment, lent, LiesOver, SameList};
+ghost use Rattle.board.specs.Rejections.{IsHeld, Ready};
+ghost use Rattle.board.specs.Calls.{Taken, Stepped, RanBy};
+ghost use Rattle.sharing.specs.Sharing.{GaveBack, TookTurns, SharedBy, TookFirst, ComesBehind};
 ghost use Rattle.sharing.specs.Asking.{AskedOr};
 
-use board::board::OpenBoard;
+use board::board::running::Ran;
+use board::board::{ClosedBoard, OpenBoard};
 use board::checking::check;
-use board::closed::ClosedBoard;
 use board::tokens::Lease;
 use grades::kind::GradeKind;
+use piles::marks::Marks;
 use piles::pile::Pile;
+use piles::ring::Ring;
+use reasoning::Job;
 use rejections::Rejection;
 use terms::terms::Terms;
 
@@ -27,9 +33,11 @@ fn give_back<K: GradeKind, P: Pile>(
     pile: &mut P,
     lease: Lease,
 )
-    requires going { Workable (terms_of terms.now) K.GradeKind.kind P.Pile.numbers board.old pile.old }
-    requires held { IsHeld board.old.counts.concepts (content_of board.old) lease.concept }
-    ensures { GaveBack (terms_of terms.now) K.GradeKind.kind P.Pile.numbers lease.concept board.old pile.old board.new pile.new }
+    requires ready { Ready (terms_of terms.now) P.shape (moment board.old pile.old) }
+    requires held { IsHeld (view board.old) lease.concept }
+    ensures list { SameList board.old board.new }
+    ensures back { GaveBack (terms_of terms.now) K.kind P.shape lease.concept
+        (moment board.old pile.old) (moment board.new pile.new) }
 {
     let lowered = board.lower(lease).unwrap();
     board.recheck(terms, pile, lowered).unwrap();
@@ -38,8 +46,10 @@ fn give_back<K: GradeKind, P: Pile>(
 /// Lets so many workers share the board, as far as there are concepts to take: each takes one and holds it while those after it work, then does a
 /// job there, if one still waits, and gives the concept back.
 fn work<K: GradeKind, P: Pile>(board: &mut OpenBoard<K>, terms: &Terms, pile: &mut P, workers: u16)
-    requires { Workable (terms_of terms.now) K.GradeKind.kind P.Pile.numbers board.old pile.old }
-    ensures { TookTurns (terms_of terms.now) K.GradeKind.kind P.Pile.numbers board.old pile.old board.new pile.new }
+    requires { Ready (terms_of terms.now) P.shape (moment board.old pile.old) }
+    ensures list { SameList board.old board.new }
+    ensures turns { TookTurns (terms_of terms.now) K.kind P.shape (moment board.old pile.old)
+        (moment board.new pile.new) }
 {
     if workers == 0 {
         return;
@@ -61,9 +71,9 @@ pub fn share<'a, K: GradeKind, P: Pile>(
     kind: K,
     workers: u16,
 ) -> ClosedBoard<'a, K>
-    ensures lent { result.words.ghost_name ≡ words.entry.ghost_name }
-    ensures done { InOrder (terms_of terms.now) K.GradeKind.kind (length words.old) (P.Pile.numbers pile.old) → WorkDone (terms_of terms.now) K.GradeKind.kind P.Pile.numbers words.old pile.old result pile.new }
-    ensures empty { (e : Reason) → MakeRejected (terms_of terms.now) K.GradeKind.kind (length words.old) (P.Pile.numbers pile.old) e → MadeEmpty words.old pile.old result pile.new }
+    ensures list { LiesOver words.entry result }
+    ensures shared { SharedBy (terms_of terms.now) K.kind P.shape words.old pile.old
+        (moment result pile.new) (lent result).now }
 {
     if check(terms, words, pile, kind).is_err() {
         return OpenBoard::make(terms, words, pile, kind).close();
@@ -76,7 +86,7 @@ pub fn share<'a, K: GradeKind, P: Pile>(
 
 /// A board that was shared, and what it answers.
 #[derive(Drop)]
-pub struct Shared<'a, K> {
+pub struct Shared<'a, K: GradeKind> {
     pub board: ClosedBoard<'a, K>,
     pub answer: Result<u16, Rejection>,
 }
@@ -92,8 +102,9 @@ pub fn share_and_ask<'a, K: GradeKind, P: Pile>(
     a: u16,
     d: u16,
 ) -> Shared<'a, K>
-    ensures lent { result.board.words.ghost_name ≡ words.entry.ghost_name }
-    ensures asked { AskedOr (terms_of terms.now) K.GradeKind.kind P.Pile.numbers a d words.old pile.old result.board pile.new result.answer }
+    ensures list { LiesOver words.entry result.board }
+    ensures asked { AskedOr (terms_of terms.now) K.kind P.shape a d words.old pile.old
+        (moment result.board pile.new) (lent result.board).now result.answer }
 {
     let checked = check(terms, words, pile, kind);
     let board = share(terms, words, pile, kind, workers);
@@ -102,4 +113,53 @@ pub fn share_and_ask<'a, K: GradeKind, P: Pile>(
         Err(rejection) => Err(rejection),
     };
     Shared { board, answer }
+}
+
+/// Takes from a board whose pile is a ring: what is leased was held longest, and the other numbers keep their order. Rejections are those of
+/// `OpenBoard::take`: 12 and 13, which leave the ring as it was, and 14, after which what was held longest is behind the others.
+pub fn take_first<K: GradeKind>(
+    board: &mut OpenBoard<K>,
+    ring: &mut Ring,
+) -> Result<Lease, Rejection>
+    ensures list { SameList board.old board.new }
+    ensures taken { Taken ring_shape (moment board.old ring.old) (moment board.new ring.new)
+        result }
+    ensures order { TookFirst (order ring.old) (order ring.new) result }
+    ensures rejected { OnErr result (board.new ≡ board.old) }
+{
+    board.take(ring)
+}
+
+/// Steps at a board whose pile is a ring: the numbers that it held stay in their order, and the concepts that the step queues come behind them.
+/// Rejections are those of `OpenBoard::step`, 11, 12, 15 and 16, and leave all as it was.
+pub fn step_before<K: GradeKind>(
+    board: &mut OpenBoard<K>,
+    terms: &Terms,
+    ring: &mut Ring,
+    lease: &Lease,
+) -> Result<Job, Rejection>
+    ensures list { SameList board.old board.new }
+    ensures stepped { Stepped (terms_of terms.now) K.kind ring_shape lease.now
+        (moment board.old ring.old) (moment board.new ring.new) result }
+    ensures order { ComesBehind (order ring.old) (order ring.new) }
+    ensures rejected { OnErr result (board.new ≡ board.old) }
+{
+    board.step(terms, ring, lease)
+}
+
+/// Runs a board whose pile is a table of marks, with a budget of 0 to 2^64 - 1 steps: what the table's list has beyond its first 1,024 entries
+/// stays as it is. Rejections are those of `OpenBoard::run`, 11 and 12, and leave all as it was.
+pub fn run_over<K: GradeKind>(
+    board: &mut OpenBoard<K>,
+    terms: &Terms,
+    marks: &mut Marks,
+    budget: u64,
+) -> Result<Ran, Rejection>
+    ensures list { SameList board.old board.new }
+    ensures ran { RanBy (terms_of terms.now) K.kind marks_shape budget (moment board.old marks.old)
+        (moment board.new marks.new) result }
+    ensures rest { RestKept marks.old.list marks.new.list }
+    ensures rejected { OnErr result (board.new ≡ board.old) }
+{
+    board.run(terms, marks, budget)
 }

@@ -9,8 +9,8 @@ use Rattle.terms.specs.declared.records.Concept.TheVariants as concept
 use Rattle.terms.specs.declared.entry.Entry.{Entry}
 use Rattle.terms.specs.declared.entry.Entry.TheVariants as entry
 use Rattle.sheet.specs.declared.fault.LineFault.{LineFault}
-use Rattle.sheet.specs.declared.kind.Kind.{Kind}
-use Rattle.sheet.specs.declared.kind.Kind.TheVariants as kind
+use Rattle.sheet.specs.declared.kind.LineKind.{LineKind}
+use Rattle.sheet.specs.declared.kind.LineKind.TheVariants as kind
 use Rattle.sheet.specs.declared.line.Numbers.{Numbers}
 use Rattle.sheet.specs.Columns.{blank, six_columns}
 use Rattle.sheet.specs.Faults.{and_then, raised, placed, on_line, line_fault}
@@ -63,7 +63,7 @@ fields_of n f g h a b c lf lg lh p q r =
     ∙ ap (λ (u : Field). three_of (Ok a) u (field_at (ltb 2 n) 14 (take 6 (drop 12 all)))) y
     ∙ ap (λ (u : Field). three_of (Ok a) (Ok b) u) z
 
-line_of_lem : (letter : ℕ) (k : Kind) (f g h : List ℕ) (a b c : ℕ) → kind_of letter ≡ Some k → length f ≡ 6 → length g ≡ 6 → length h ≡ 6
+line_of_lem : (letter : ℕ) (k : LineKind) (f g h : List ℕ) (a b c : ℕ) → kind_of letter ≡ Some k → length f ≡ 6 → length g ≡ 6 → length h ≡ 6
     → field_at (ltb 0 (count_of k)) 2 f ≡ Ok a → field_at (ltb 1 (count_of k)) 8 g ≡ Ok b → field_at (ltb 2 (count_of k)) 14 h ≡ Ok c
     → line_of (letter ∷ ((f ++ (g ++ h)) ++ (10 ∷ []))) ≡ Ok (entry_of k (record { first = a; second = b; third = c }))
 line_of_lem letter k f g h a b c p lf lg lh x y z =
@@ -72,7 +72,7 @@ line_of_lem letter k f g h a b c p lf lg lh x y z =
     let long : length all ≡ 18 = simp length-append (omega arith) in
     let q : numbers_of (count_of k) (take 18 (all ++ (10 ∷ []))) ≡ Ok n = ap (numbers_of (count_of k)) (front 18 all (10 ∷ []) long) ∙ fields_of (count_of k) f g h a b c lf lg lh x y z in
     let feed : get_or (all ++ (10 ∷ [])) 18 0 ≡ 10 = get_or-append_right all (10 ∷ []) 18 18 0 long (omega arith) in
-    ap (λ (o : Option Kind). kind_line o (take 18 (all ++ (10 ∷ []))) (get_or (all ++ (10 ∷ [])) 18 0)) p
+    ap (λ (o : Option LineKind). kind_line o (take 18 (all ++ (10 ∷ []))) (get_or (all ++ (10 ∷ [])) 18 0)) p
     ∙ ap (λ (r : Result Numbers LineFault). and_then r (λ m. ended_by (get_or (all ++ (10 ∷ [])) 18 0) (entry_of k m))) q
     ∙ ap (λ d. ended_by d (entry_of k n)) feed
 
@@ -98,7 +98,7 @@ written_read (entry.Inclusion i) s =
 
 -- ---- what is read was written
 
-code_of : Kind → ℕ
+code_of : LineKind → ℕ
 code_of kind.Atomic = 65
 code_of kind.Top = 84
 code_of kind.Conjunction = 78
@@ -108,14 +108,14 @@ code_of kind.Order = 73
 code_of kind.Transitive = 80
 code_of kind.Inclusion = 83
 
-peel : (c d : ℕ) (j k : Kind) (rest : Option Kind) → cond (eqb c d) (Some j) rest ≡ Some k → ((c ≡ d) × (j ≡ k)) ⊎ (rest ≡ Some k)
+peel : (c d : ℕ) (j k : LineKind) (rest : Option LineKind) → cond (eqb c d) (Some j) rest ≡ Some k → ((c ≡ d) × (j ≡ k)) ⊎ (rest ≡ Some k)
 peel c d j k rest e = at_test (eqb c d) (eqb-true c d) e
   where
     at_test : (b : Bool) → (b ≡ true → c ≡ d) → cond b (Some j) rest ≡ Some k → ((c ≡ d) × (j ≡ k)) ⊎ (rest ≡ Some k)
     at_test true f e = inl (f refl, cc)
     at_test false f e = inr e
 
-kind_letter : (c : ℕ) (k : Kind) → kind_of c ≡ Some k → c ≡ code_of k
+kind_letter : (c : ℕ) (k : LineKind) → kind_of c ≡ Some k → c ≡ code_of k
 unfolding code_of
 kind_letter c k e =
     ⊎_elim (λ p. p.0 ∙ ap code_of p.1) (λ e.
@@ -157,7 +157,7 @@ same_line : (c : ℕ) {f g h f' g' h' : List ℕ} → f ≡ f' → g ≡ g' → 
 same_line c p q r = cc
 
 -- a line of a sort with its fields is the written form of what it states
-line_written : (k : Kind) (n : Numbers) (f g h : List ℕ) → length f ≡ 6 → length g ≡ 6 → length h ≡ 6
+line_written : (k : LineKind) (n : Numbers) (f g h : List ℕ) → length f ≡ 6 → length g ≡ 6 → length h ≡ 6
     → field_at (ltb 0 (count_of k)) 2 f ≡ Ok n.first → field_at (ltb 1 (count_of k)) 8 g ≡ Ok n.second → field_at (ltb 2 (count_of k)) 14 h ≡ Ok n.third
     → (code_of k ∷ ((f ++ (g ++ h)) ++ (10 ∷ [])) ≡ written (entry_of k n)) × Small (entry_of k n)
 unfolding code_of
@@ -191,15 +191,15 @@ whole_line [] e = absurd (omega arith)
 whole_line (x ∷ xs) e = ap (λ ys. x ∷ ys) (sym (take_all 19 xs (omega arith)) ∙ take_more xs 18 0 (omega arith))
 
 -- the parts of a line that is read
-record Parts (o : Option Kind) (fs : List ℕ) (c : ℕ) (e : Entry) : Type 0 where
-  sort : Kind
+record Parts (o : Option LineKind) (fs : List ℕ) (c : ℕ) (e : Entry) : Type 0 where
+  sort : LineKind
   is_sort : o ≡ Some sort
   numbers : Numbers
   are_numbers : numbers_of (count_of sort) fs ≡ Ok numbers
   feed : c ≡ 10
   states : entry_of sort numbers ≡ e
 
-parts : (o : Option Kind) (fs : List ℕ) (c : ℕ) (e : Entry) → kind_line o fs c ≡ Ok e → Parts o fs c e
+parts : (o : Option LineKind) (fs : List ℕ) (c : ℕ) (e : Entry) → kind_line o fs c ≡ Ok e → Parts o fs c e
 parts None fs c e h = let z : ◌≡◌ {A = ℕ} 0 1 = cc in absurd (omega arith)
 parts (Some k) fs c e h = at_numbers (numbers_of (count_of k) fs) refl h
   where

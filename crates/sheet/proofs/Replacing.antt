@@ -8,23 +8,23 @@ use Rattle.terms.specs.declared.terms.Terms.{Terms}
 use Rattle.terms.specs.Contents.{nothing}
 use Rattle.terms.specs.Counting.{none_of}
 use Rattle.terms.specs.Entries.{with_entries}
-use Rattle.terms.specs.Lent.{Filled, Added}
+use Rattle.terms.specs.Lent.{WrittenOver, Added}
 use Rattle.terms.specs.Views.{contents_of}
 use Rattle.terms.proofs.Filling.{same_lists, filled_on, added_more}
 use Rattle.sheet.specs.declared.fault.Fault.{Fault}
 use Rattle.sheet.specs.Faults.{and_then, unfinished}
-use Rattle.sheet.specs.Sheet.{lines_in, count_lines, sheet_of, Took, none, more}
+use Rattle.sheet.specs.Sheet.{lines_in, count_lines, sheet_of, TookEntries, none, more}
 
 -- ---- what the terms hold
 
 -- terms that took entries one after another
 record Grown (es : List Entry) (s u : Terms) : Type 0 where
   contents : contents_of u ≡ with_entries es (contents_of s)
-  lists : Filled s u
+  lists : WrittenOver s u
   concepts : s.concept_count ≤ u.concept_count
   inclusions : s.inclusion_count ≤ u.inclusion_count
 
-grown : {es : List Entry} {s u : Terms} → Took Added es s u → Grown es s u
+grown : {es : List Entry} {s u : Terms} → TookEntries Added es s u → Grown es s u
 grown {es} {s} none = record { contents = refl; lists = same_lists s s refl refl refl refl; concepts = omega arith; inclusions = omega arith }
 grown (more {e} {es} {s} {t} {u} a k) =
     let g = grown k in
@@ -36,7 +36,7 @@ grown (more {e} {es} {s} {t} {u} a k) =
       inclusions = omega arith;
     }
 
-pub replaced : (t c u : Terms) (es : List Entry) → contents_of c ≡ nothing → Filled t c → Took Added es c u → (contents_of u ≡ with_entries es nothing) × Filled t u
+pub replaced : (t c u : Terms) (es : List Entry) → contents_of c ≡ nothing → WrittenOver t c → TookEntries Added es c u → (contents_of u ≡ with_entries es nothing) × WrittenOver t u
 replaced t c u es e f k =
     let g = grown k in
     (g.contents ∙ ap (with_entries es) e, filled_on t c u g.concepts g.inclusions f g.lists)

@@ -8,7 +8,7 @@ use Rattle.sheet.specs.declared.fault.Fault.{Fault}
 use Rattle.sheet.specs.declared.fault.LineFault.{LineFault}
 use Rattle.sheet.specs.Faults.{and_then, raised, placed, in_sheet, blamed}
 use Rattle.sheet.specs.Line.{line_of}
-use Rattle.sheet.specs.Sheet.{allowed_at, line_step, count_lines, stated_by, entries_of, Took, none, more}
+use Rattle.sheet.specs.Sheet.{allowed_at, line_step, count_lines, stated_by, entries_of, TookEntries, none, more}
 
 -- ---- one line
 
@@ -39,10 +39,10 @@ entries_push ls i e h p =
     ap entries_of (take_more ls i [] h) ∙ entries_on (take i ls) (get_or ls i [] ∷ [])
     ∙ ap (λ es. entries_of (take i ls) ++ es) (append-nil (stated_by (line_of (get_or ls i []))) ∙ ap stated_by p)
 
-took_push : {S : Type 0} {grows : Entry → S → S → Type 0} {es : List Entry} {s t : S} (e : Entry) (u : S) → Took grows es s t → grows e t u → Took grows (es ++ (e ∷ [])) s u
+took_push : {S : Type 0} {grows : Entry → S → S → Type 0} {es : List Entry} {s t : S} (e : Entry) (u : S) → TookEntries grows es s t → grows e t u → TookEntries grows (es ++ (e ∷ [])) s u
 took_push e u none g = more g none
 took_push e u (more h k) g = more h (took_push e u k g)
 
 pub took_more : {S : Type 0} (grows : Entry → S → S → Type 0) (ls : List (List ℕ)) (i : ℕ) (e : Entry) (s t u : S) → i < length ls → line_of (get_or ls i []) ≡ Ok e
-    → Took grows (entries_of (take i ls)) s t → grows e t u → Took grows (entries_of (take (i + 1) ls)) s u
-took_more grows ls i e s t u h p k g = subst (λ es. Took grows es s u) (sym (entries_push ls i e h p)) (took_push e u k g)
+    → TookEntries grows (entries_of (take i ls)) s t → grows e t u → TookEntries grows (entries_of (take (i + 1) ls)) s u
+took_more grows ls i e s t u h p k g = subst (λ es. TookEntries grows es s u) (sym (entries_push ls i e h p)) (took_push e u k g)

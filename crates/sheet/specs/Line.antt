@@ -6,14 +6,14 @@ use Rattle.terms.specs.declared.entry.Entry.{Entry}
 use Rattle.terms.specs.declared.entry.Entry.TheVariants as entry
 use Rattle.sheet.specs.declared.fault.FieldFault.{FieldFault}
 use Rattle.sheet.specs.declared.fault.LineFault.{LineFault}
-use Rattle.sheet.specs.declared.kind.Kind.{Kind}
-use Rattle.sheet.specs.declared.kind.Kind.TheVariants as kind
+use Rattle.sheet.specs.declared.kind.LineKind.{LineKind}
+use Rattle.sheet.specs.declared.kind.LineKind.TheVariants as kind
 use Rattle.sheet.specs.declared.line.Numbers.{Numbers}
 use Rattle.sheet.specs.Faults.{and_then, raised, placed, on_line, line_fault}
 use Rattle.sheet.specs.Field.{field_of}
 
 -- the sort of a line by the code of its letter
-abbrev pub kind_of : ℕ → Option Kind
+abbrev pub kind_of : ℕ → Option LineKind
 kind_of c =
     cond (c == 65) (Some kind.Atomic)
     (cond (c == 84) (Some kind.Top)
@@ -25,7 +25,7 @@ kind_of c =
     (cond (c == 83) (Some kind.Inclusion) None)))))))
 
 -- how many fields have a number
-abbrev pub count_of : Kind → ℕ
+abbrev pub count_of : LineKind → ℕ
 count_of kind.Atomic = 0
 count_of kind.Top = 0
 count_of kind.Conjunction = 2
@@ -55,7 +55,7 @@ abbrev pub numbers_of : ℕ → List ℕ → Result Numbers LineFault
 numbers_of n fs = three_of (field_at (nat_lt 0 n) 2 (take 6 fs)) (field_at (nat_lt 1 n) 8 (take 6 (drop 6 fs))) (field_at (nat_lt 2 n) 14 (take 6 (drop 12 fs)))
 
 -- what a line of a sort states
-abbrev pub entry_of : Kind → Numbers → Entry
+abbrev pub entry_of : LineKind → Numbers → Entry
 entry_of kind.Atomic n = entry.Concept concept.Atomic
 entry_of kind.Top n = entry.Concept concept.Top
 entry_of kind.Conjunction n = entry.Concept (concept.Conjunction n.first n.second)
@@ -70,7 +70,7 @@ abbrev pub ended_by : ℕ → Entry → Result Entry LineFault
 ended_by c e = cond (c == 10) (Ok e) (Err (line_fault NoLineFeed 20))
 
 -- the fields and the line feed after a letter
-abbrev pub kind_line : Option Kind → List ℕ → ℕ → Result Entry LineFault
+abbrev pub kind_line : Option LineKind → List ℕ → ℕ → Result Entry LineFault
 kind_line None fs c = Err (line_fault UnknownLetter 1)
 kind_line (Some k) fs c = and_then (numbers_of (count_of k) fs) (λ n. ended_by c (entry_of k n))
 

@@ -1,5 +1,5 @@
 -- What a sheet says, line by line.
-use Rattle.std.specs.Prelude.{◌≡◌, ℕ, ◌+◌, ◌/◌, ◌%◌, cond, List, [], ◌∷◌, ◌++◌, length, Ok, Err, Result, ◌==◌}
+use Rattle.std.specs.Prelude.{◌≡◌, ℕ, ◌+◌, ◌/◌, ◌%◌, cond, List, [], ◌∷◌, length, Ok, Err, Result, ◌==◌}
 use Rattle.std.specs.List.{flat_map}
 use Rattle.std.specs.Simd.{first_chunks}
 use Rattle.terms.specs.declared.entry.Entry.{Entry}
@@ -62,11 +62,11 @@ pub record TookLine {S : Type 0} (counts : S → Tally) (grows : Entry → S →
   pub counts_on : line_step k l (counts s) ≡ Ok (counts t)
 
 -- s becomes t by taking entries one after another
-pub data Took {S : Type 0} (grows : Entry → S → S → Type 0) : List Entry → S → S → Type 0 where
-  none : {s : S} → Took grows [] s s
-  more : {e : Entry} {es : List Entry} {s t u : S} → grows e s t → Took grows es t u → Took grows (e ∷ es) s u
+pub data TookEntries {S : Type 0} (grows : Entry → S → S → Type 0) : List Entry → S → S → Type 0 where
+  none : {s : S} → TookEntries grows [] s s
+  more : {e : Entry} {es : List Entry} {s t u : S} → grows e s t → TookEntries grows es t u → TookEntries grows (e ∷ es) s u
 
 -- s becomes t by taking the entry that each line states
 pub record TookLines {S : Type 0} (counts : S → Tally) (grows : Entry → S → S → Type 0) (ls : List (List ℕ)) (s t : S) : Type 0 where
-  pub taken : Took grows (entries_of ls) s t
+  pub taken : TookEntries grows (entries_of ls) s t
   pub counts_on : count_lines 1 ls (counts s) ≡ Ok (counts t)

@@ -4,7 +4,7 @@ ghost use Rattle.sheet.specs.Line.{kind_of, count_of};
 
 /// What a line is about.
 #[derive(Clone, Copy)]
-pub(crate) enum Kind {
+pub(crate) enum LineKind {
     Atomic,
     Top,
     Conjunction,
@@ -15,20 +15,20 @@ pub(crate) enum Kind {
     Inclusion,
 }
 
-impl Kind {
+impl LineKind {
     /// The sort of a line that begins with the letter.
-    pub(crate) fn of(letter: char) -> Option<Kind>
+    pub(crate) fn of(letter: char) -> Option<LineKind>
         ensures { result ≡ kind_of letter }
     {
         Some(match letter {
-            'A' => Kind::Atomic,
-            'T' => Kind::Top,
-            'N' => Kind::Conjunction,
-            'E' => Kind::Restriction,
-            'R' => Kind::Role,
-            'I' => Kind::Order,
-            'P' => Kind::Transitive,
-            'S' => Kind::Inclusion,
+            'A' => LineKind::Atomic,
+            'T' => LineKind::Top,
+            'N' => LineKind::Conjunction,
+            'E' => LineKind::Restriction,
+            'R' => LineKind::Role,
+            'I' => LineKind::Order,
+            'P' => LineKind::Transitive,
+            'S' => LineKind::Inclusion,
             _ => return None,
         })
     }
@@ -38,10 +38,10 @@ impl Kind {
         ensures { result ≡ count_of self }
     {
         match self {
-            Kind::Atomic | Kind::Top | Kind::Role => 0,
-            Kind::Transitive => 1,
-            Kind::Conjunction | Kind::Restriction | Kind::Order => 2,
-            Kind::Inclusion => 3,
+            LineKind::Atomic | LineKind::Top | LineKind::Role => 0,
+            LineKind::Transitive => 1,
+            LineKind::Conjunction | LineKind::Restriction | LineKind::Order => 2,
+            LineKind::Inclusion => 3,
         }
     }
 }

@@ -7,7 +7,7 @@ ghost use Rattle.sheet.specs.Written.{LineLaw};
 
 use crate::fault::{FieldFault, Layer, LineFault, at};
 use crate::field::field;
-use crate::kind::Kind;
+use crate::kind::LineKind;
 use crate::parts::{Line, line_parts};
 use rejections::Rejection;
 use terms::entry::Entry;
@@ -35,7 +35,7 @@ fn stated(parts: Line) -> Result<Entry, LineFault>
     requires { length parts.fields.now ≡ 18 }
     ensures { result ≡ kind_line (kind_of parts.entry.letter) parts.entry.fields.now parts.entry.feed }
 {
-    let kind = Kind::of(char::from(parts.letter)).ok_or(LineFault {
+    let kind = LineKind::of(char::from(parts.letter)).ok_or(LineFault {
         layer: Layer::Line,
         rejection: Rejection::UnknownLetter,
         column: 1,
@@ -85,7 +85,7 @@ fn read_numbers(fields: &[u8], count: u8) -> Result<Numbers, LineFault>
     })
 }
 
-fn entry(kind: Kind, numbers: Numbers) -> Entry
+fn entry(kind: LineKind, numbers: Numbers) -> Entry
     ensures { result ≡ entry_of kind numbers }
 {
     let Numbers {
@@ -94,14 +94,14 @@ fn entry(kind: Kind, numbers: Numbers) -> Entry
         third,
     } = numbers;
     match kind {
-        Kind::Atomic => Entry::Concept(Concept::Atomic),
-        Kind::Top => Entry::Concept(Concept::Top),
-        Kind::Conjunction => Entry::Concept(Concept::Conjunction(first, second)),
-        Kind::Restriction => Entry::Concept(Concept::Restriction(first, second)),
-        Kind::Role => Entry::Role,
-        Kind::Order => Entry::Order(first, second),
-        Kind::Transitive => Entry::Transitive(first),
-        Kind::Inclusion => Entry::Inclusion(Inclusion {
+        LineKind::Atomic => Entry::Concept(Concept::Atomic),
+        LineKind::Top => Entry::Concept(Concept::Top),
+        LineKind::Conjunction => Entry::Concept(Concept::Conjunction(first, second)),
+        LineKind::Restriction => Entry::Concept(Concept::Restriction(first, second)),
+        LineKind::Role => Entry::Role,
+        LineKind::Order => Entry::Order(first, second),
+        LineKind::Transitive => Entry::Transitive(first),
+        LineKind::Inclusion => Entry::Inclusion(Inclusion {
             sub: first,
             sup: second,
             code: third,

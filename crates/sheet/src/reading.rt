@@ -1,6 +1,6 @@
 //! Reading a sheet into terms.
 ghost use Rattle.std.specs.Prelude.{◌≡◌, ◌+◌, ◌/◌, ◌%◌, length, Err, MatchResult, ◌≢◌};
-ghost use Rattle.terms.specs.Lent.{room_of, Filled};
+ghost use Rattle.terms.specs.Lent.{room_of, WrittenOver};
 ghost use Rattle.terms.specs.Views.{contents_of, terms_of};
 ghost use Rattle.sheet.specs.Faults.{unfinished};
 ghost use Rattle.sheet.specs.Sheet.{lines_in, line_step, count_lines, sheet_of, TookLine, TookLines, contents_in};
@@ -17,7 +17,7 @@ use terms::terms::Terms;
 /// and their lists as they were.
 pub fn read(text: &[u8], terms: &mut Terms) -> Result<usize, Fault>
     ensures result { result ≡ sheet_of (room_of terms.old) text.now }
-    ensures terms { MatchResult result (λ _. (contents_of terms.new ≡ contents_in text.now) × Filled terms.old terms.new) (λ _. terms.new ≡ terms.old) }
+    ensures terms { MatchResult result (λ _. (contents_of terms.new ≡ contents_in text.now) × WrittenOver terms.old terms.new) (λ _. terms.new ≡ terms.old) }
     ensures law { MatchResult result (λ n. ReadAs (room_of terms.old) text.now n (terms_of terms.new)) (λ _. ReadAsNone (room_of terms.old) text.now) }
 {
     let lines = whole_lines(text)?;

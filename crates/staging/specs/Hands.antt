@@ -1,13 +1,12 @@
--- What comes of a hand that is shown to a desk.
+-- What comes of a hand that is shown to a session.
 use Rattle.std.specs.Prelude.{◌≡◌, ℕ, Bool, true, false, List, Err, IsOk, IsErr}
 use Rattle.grades.specs.Kinds.{Kind}
-use Rattle.piles.specs.Sets.{Numbers}
+use Rattle.piles.specs.Shapes.{Shape}
 use Rattle.terms.specs.Vocabularies.{Vocabulary}
 use Rattle.saturation.specs.declared.Outcome.TheVariants.{Finished}
+use Rattle.saturation.specs.Boards.{Moment}
 use Rattle.saturation.specs.Histories.{Event}
 use Rattle.saturation.specs.Runs.{Runs}
-use Rattle.board.specs.Stages.{OpenBoard}
-use Rattle.board.specs.Views.{moment_of, SaneBoard}
 use Rattle.staging.specs.declared.hands.Hand.{Hand}
 use Rattle.staging.specs.declared.hands.Hand.TheVariants.{Empty, Holding, Owing}
 use Rattle.staging.specs.declared.hands.Refusal.TheVariants.{OtherHand}
@@ -32,12 +31,11 @@ is_owing (Holding l) = false
 is_owing (Owing l) = true
 
 -- a deed wants a hand of one sort and leaves one of another; where it comes to nothing the hand is of the sort that it was
-pub record Answered (wants leaves : Hand → Bool) (h : Hand) (s : Shown) : Type 0 where
+pub record Dealt (wants leaves : Hand → Bool) (h : Hand) (s : Shown) : Type 0 where
   pub unfit : wants h ≡ false → s ≡ record { hand = h; answer = Err OtherHand }
   pub fine : IsOk s.answer → (wants h ≡ true) × (leaves s.hand ≡ true)
   pub refused : IsErr s.answer → wants h ≡ true → wants s.hand ≡ true
 
 -- a run without a limit came to its end
-abbrev pub RanOut : {X Y : Type 0} → Vocabulary → Kind → (Y → Numbers) → OpenBoard X → Y → OpenBoard X → Y → Type 0
-RanOut v k numbers a p b q =
-    SaneBoard k a → (steps : ℕ) × (es : List Event) × Runs v k 18446744073709551615 Finished steps es (moment_of numbers a p) (moment_of numbers b q)
+abbrev pub RanOut : {Y : Type 0} → Vocabulary → Kind → Shape Y → Moment Y → Moment Y → Type 0
+RanOut v k S a b = (steps : ℕ) × (es : List Event) × Runs v k S 18446744073709551615 Finished steps es a b

@@ -1,7 +1,8 @@
 //! A worker's hand, and a board to which it is shown.
 ghost use Rattle.std.specs.Prelude.{◌≡◌, true, IsOk};
 ghost use Rattle.terms.specs.Views.{terms_of};
-ghost use Rattle.staging.specs.Hands.{is_empty, is_holding, is_owing, Answered, RanOut};
+ghost use Rattle.board.specs.Views.{moment};
+ghost use Rattle.staging.specs.Hands.{is_empty, is_holding, is_owing, Dealt, RanOut};
 
 use board::board::OpenBoard;
 use board::tokens::{Lease, LoweredLease, Refused};
@@ -39,7 +40,7 @@ pub struct Shown {
 
 /// A board on which work goes on, with its pile and with terms.
 #[derive(Drop)]
-pub struct Desk<'b, 'w, 'p, 't, K, P> {
+pub struct Session<'b, 'w, 'p, 't, K: GradeKind, P> {
     pub board: &'b mut OpenBoard<'w, K>,
     pub pile: &'p mut P,
     pub terms: &'t Terms<'t>,
@@ -71,19 +72,20 @@ impl Hand {
     }
 }
 
-impl<'b, 'w, 'p, 't, K, P> Desk<'b, 'w, 'p, 't, K, P> {
+impl<'b, 'w, 'p, 't, K: GradeKind, P> Session<'b, 'w, 'p, 't, K, P> {
     /// The board with its pile and the terms.
     pub fn new(board: &'b mut OpenBoard<'w, K>, pile: &'p mut P, terms: &'t Terms<'t>) -> Self
-        ensures { (result.board.now ≡ board.old) × (result.pile.now ≡ pile.old) × (result.terms.now ≡ terms.now) }
+        ensures { (result.board.now ≡ board.old) × (result.pile.now ≡ pile.old) ×
+            (result.terms.now ≡ terms.now) }
     {
-        Desk { board, pile, terms }
+        Session { board, pile, terms }
     }
 }
 
-impl<'b, 'w, 'p, 't, K: GradeKind, P: Pile> Desk<'b, 'w, 'p, 't, K, P> {
+impl<'b, 'w, 'p, 't, K: GradeKind, P: Pile> Session<'b, 'w, 'p, 't, K, P> {
     /// Takes a concept into an empty hand.
     pub fn take(&mut self, hand: Hand) -> Shown
-        ensures { Answered is_empty is_holding hand result }
+        ensures { Dealt is_empty is_holding hand result }
     {
         let Hand::Empty = hand else {
             return hand.shown(Err(Refusal::OtherHand));
@@ -107,7 +109,7 @@ impl<'b, 'w, 'p, 't, K: GradeKind, P: Pile> Desk<'b, 'w, 'p, 't, K, P> {
 
     /// Shows the lease in hand for a lowering.
     pub fn lower(&mut self, hand: Hand) -> Shown
-        ensures { Answered is_holding is_owing hand result }
+        ensures { Dealt is_holding is_owing hand result }
     {
         let Hand::Holding(lease) = hand else {
             return hand.shown(Err(Refusal::OtherHand));
@@ -124,7 +126,7 @@ impl<'b, 'w, 'p, 't, K: GradeKind, P: Pile> Desk<'b, 'w, 'p, 't, K, P> {
 
     /// Shows the lowered lease in hand for a recheck.
     pub fn recheck(&mut self, hand: Hand) -> Shown
-        ensures { Answered is_owing is_empty hand result }
+        ensures { Dealt is_owing is_empty hand result }
     {
         let Hand::Owing(lowered) = hand else {
             return hand.shown(Err(Refusal::OtherHand));
@@ -141,7 +143,9 @@ impl<'b, 'w, 'p, 't, K: GradeKind, P: Pile> Desk<'b, 'w, 'p, 't, K, P> {
 
     /// Runs to the end.
     pub fn run(&mut self) -> Result<(), Refusal>
-        ensures { IsOk result → RanOut (terms_of self.old.terms.now) K.GradeKind.kind P.Pile.numbers self.old.board.now self.old.pile.now self.new.board.now self.new.pile.now }
+        ensures { IsOk result → RanOut (terms_of self.old.terms.now) K.kind P.shape
+            (moment self.old.board.now self.old.pile.now)
+            (moment self.new.board.now self.new.pile.now) }
     {
         match self.board.run(self.terms, self.pile, u64::MAX)?.outcome {
             Outcome::Finished => Ok(()),

@@ -6,7 +6,7 @@ use Rattle.std.proofs.lemmas.Nat.Bits.{bit_at_or, bit_at-zero, bit_at-pow_same, 
 use Rattle.std.proofs.lemmas.List.{get_or-replicate, get_or_past}
 use Rattle.std.proofs.lemmas.Bool.{eqb-true, eq-eqb, cases_eq, cases_lt}
 use Rattle.terms.specs.Contents.{bit}
-use Rattle.terms.specs.Rule.{Below, Transitive, OnRoles, FlaggedRoles}
+use Rattle.terms.specs.Rule.{HasBit, Transitive, OnRoles, FlaggedRoles}
 
 -- bit k of the word w is set
 abbrev pub Bit : ℕ → ℕ → Type 0
@@ -40,7 +40,7 @@ none_row : (a : ℕ) → ◌≡◌ {A = ℕ} (get_or (replicate 32 0) a 0) 0
 none_row a = ⊎_elim (λ h. get_or-replicate 32 a 0 0 h) (λ h. get_or_past (replicate 32 0) a 0 h) (cases_lt a 32)
 
 -- nothing is below anything in the empty table
-pub none_below : (a b : ℕ) → Below (replicate 32 0) a b → ⊥
+pub none_below : (a b : ℕ) → HasBit (replicate 32 0) a b → ⊥
 none_below a b e = zero_bit b (told 0 b (subst (λ w. bit w b ≡ true) (none_row a) e))
 
 -- so it is transitive and relates only roles, and the empty word has only flags of roles

@@ -12,7 +12,7 @@ use Rattle.terms.specs.declared.terms.Terms.{Terms}
 use Rattle.terms.specs.Contents.{Contents, nothing}
 use Rattle.terms.specs.Counting.{counted, none_of, room_for}
 use Rattle.terms.specs.Entries.{with_entry}
-use Rattle.terms.specs.Lent.{room_of, tally_of, onto, Filled, Added}
+use Rattle.terms.specs.Lent.{room_of, tally_of, onto, WrittenOver, Added}
 use Rattle.terms.specs.Views.{contents_of}
 use Rattle.terms.proofs.Formed.{concepts_length, inclusions_length}
 use Rattle.terms.proofs.Grown.{over_itself}
@@ -21,7 +21,7 @@ use Rattle.terms.proofs.Grown.{over_itself}
 
 -- terms with the same fronts of the same lists
 pub same_lists : (t u : Terms) → u.concepts ≡ t.concepts → u.inclusions ≡ t.inclusions
-    → u.concept_count ≡ t.concept_count → u.inclusion_count ≡ t.inclusion_count → Filled t u
+    → u.concept_count ≡ t.concept_count → u.inclusion_count ≡ t.inclusion_count → WrittenOver t u
 same_lists t u p q m n = record {
   same_concepts = ap (λ (r : MutBor (List Concept)). r.ghost_name) p;
   same_inclusions = ap (λ (r : MutBor (List Inclusion)). r.ghost_name) q;
@@ -35,7 +35,7 @@ same_lists t u p q m n = record {
 twice : {A : Type 0} (xs ys zs us : List A) → length xs ≤ length ys → us ≡ onto xs zs → onto ys us ≡ onto ys zs
 twice xs ys zs us h e = ap (λ ws. ys ++ drop (length ys) ws) e ∙ ap (λ ws. ys ++ ws) (drop-append-drop (length xs) zs xs (length ys) h refl)
 
-pub filled_on : (t u v : Terms) → u.concept_count ≤ v.concept_count → u.inclusion_count ≤ v.inclusion_count → Filled t u → Filled u v → Filled t v
+pub filled_on : (t u v : Terms) → u.concept_count ≤ v.concept_count → u.inclusion_count ≤ v.inclusion_count → WrittenOver t u → WrittenOver u v → WrittenOver t v
 filled_on t u v m n a b = record {
   same_concepts = b.same_concepts ∙ a.same_concepts;
   same_inclusions = b.same_inclusions ∙ a.same_inclusions;
@@ -63,7 +63,7 @@ tally_counts t =
     ap (λ (n : ℕ). record { concepts = n; roles = t.role_count; inclusions = t.inclusion_count; room = room_of t }) (sym (concepts_length t))
     ∙ ap (λ (n : ℕ). record { concepts = length (contents_of t).concepts; roles = t.role_count; inclusions = n; room = room_of t }) (sym (inclusions_length t))
 
-pub same_room : (t u : Terms) → Filled t u → room_of u ≡ room_of t
+pub same_room : (t u : Terms) → WrittenOver t u → room_of u ≡ room_of t
 same_room t u f = ap (λ (n : ℕ). room_for n (length u.inclusions.now)) f.long_concepts ∙ ap (λ (n : ℕ). room_for (length t.concepts.now) n) f.long_inclusions
 
 -- one entry more is counted
@@ -76,7 +76,7 @@ added_counts e t u a =
     ∙ ap (counted e) (sym (tally_counts t))
 
 -- terms with nothing in them are counted so
-pub cleared_counts : (t u : Terms) → contents_of u ≡ nothing → Filled t u → tally_of u ≡ none_of (room_of t)
+pub cleared_counts : (t u : Terms) → contents_of u ≡ nothing → WrittenOver t u → tally_of u ≡ none_of (room_of t)
 cleared_counts t u e f = tally_counts u ∙ ap (λ (s : Contents). counts s (room_of u)) e ∙ ap none_of (same_room t u f)
 
 counted_more : (e : Entry) (t : Tally) → (t.concepts ≤ (counted e t).concepts) × (t.inclusions ≤ (counted e t).inclusions)

@@ -14,7 +14,7 @@ use Rattle.terms.specs.declared.tally.Tally.{Tally}
 use Rattle.terms.specs.Contents.{Contents, nothing, bit, vocabulary_of}
 use Rattle.terms.specs.Counting.{Allowed, AllAllowed, counted, none_of}
 use Rattle.terms.specs.Entries.{climbed, with_entry, with_entries}
-use Rattle.terms.specs.Rule.{Below, OnRoles}
+use Rattle.terms.specs.Rule.{HasBit, OnRoles}
 use Rattle.terms.specs.Statements.{concepts_in, inclusions_in, roles_in, Le, same, stated, chain, Says}
 use Rattle.terms.proofs.Bits.{told, tell, none_below, zero_bit, pow_bit, pow_only, or_cases, or_left, or_right}
 use Rattle.terms.proofs.Preorder.{role_cases, role_self, role_keeps, pair_cases, pair_keeps, pair_joins}
@@ -125,7 +125,7 @@ linked_pair es r q hr hq h a b m =
 -- what an entry of another sort leaves
 
 le_kept : (es : List Entry) (e : Entry) (rows : List ℕ) → roles_in (plus es e) ≡ roles_in es → ((r s : ℕ) → entry.Order r s ≡ e → ⊥)
-    → ((a b : ℕ) → (Below rows a b ↔ Le es a b)) → (a b : ℕ) → (Below rows a b ↔ Le (plus es e) a b)
+    → ((a b : ℕ) → (HasBit rows a b ↔ Le es a b)) → (a b : ℕ) → (HasBit rows a b ↔ Le (plus es e) a b)
 le_kept es e rows p no1 f a b = (λ h. le_before es e ((f a b).0 h), λ h. (f a b).1 (le_other es e p no1 h))
 
 flags_kept : (es : List Entry) (e : Entry) (w : ℕ) → ((r : ℕ) → entry.Transitive r ≡ e → ⊥)
@@ -222,7 +222,7 @@ with_role_lem es s few h =
               (λ u. subst (λ x. Le (plus es e) a x) (u.0 ∙ sym u.1) (same (omega (arith, u.0, h.says.roles))))
               (role_cases n s.order lt k)),
           (λ l. ⊎_elim (λ u. role_keeps n s.order lt (on_roles es s h) a b ((h.says.order a b).1 u))
-              (λ u. subst (λ x. Below (set s.order n (2 ^ n)) x b) (h.says.roles ∙ sym u.0) (subst (λ x. Below (set s.order n (2 ^ n)) n x) (h.says.roles ∙ sym u.1) (role_self n s.order lt)))
+              (λ u. subst (λ x. HasBit (set s.order n (2 ^ n)) x b) (h.says.roles ∙ sym u.0) (subst (λ x. HasBit (set s.order n (2 ^ n)) n x) (h.says.roles ∙ sym u.1) (role_self n s.order lt)))
               (le_role es h.linked l)),
         );
         transitive = flags_kept es e s.transitive no2 h.says.transitive;

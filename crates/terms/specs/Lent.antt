@@ -26,7 +26,7 @@ abbrev pub onto : {A : Type 0} → List A → List A → List A
 onto xs ys = xs ++ drop (length xs) ys
 
 -- the terms u have the lists of the terms t, with what u holds written over the fronts
-pub record Filled (t u : Terms) : Type 0 where
+pub record WrittenOver (t u : Terms) : Type 0 where
   pub same_concepts : u.concepts.ghost_name ≡ t.concepts.ghost_name
   pub same_inclusions : u.inclusions.ghost_name ≡ t.inclusions.ghost_name
   pub long_concepts : length u.concepts.now ≡ length t.concepts.now
@@ -36,4 +36,4 @@ pub record Filled (t u : Terms) : Type 0 where
 
 -- the terms u are the terms t with one entry more
 abbrev pub Added : Entry → Terms → Terms → Type 0
-Added e t u = (contents_of u ≡ with_entry e (contents_of t)) × Filled t u
+Added e t u = (contents_of u ≡ with_entry e (contents_of t)) × WrittenOver t u

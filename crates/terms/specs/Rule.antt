@@ -37,20 +37,20 @@ abbrev pub AllNamed : ℕ → ℕ → List Inclusion → Type 0
 AllNamed n m is = (k : ℕ) → k < m → NamesBelow n (slice_index_or is k blank)
 
 -- row a has bit b
-abbrev pub Below : List ℕ → ℕ → ℕ → Type 0
-Below rows a b = bit (slice_index rows a) b ≡ true
+abbrev pub HasBit : List ℕ → ℕ → ℕ → Type 0
+HasBit rows a b = bit (slice_index rows a) b ≡ true
 
 -- the table of rows is reflexive on the numbers below n
 abbrev pub Reflexive : ℕ → List ℕ → Type 0
-Reflexive n rows = (a : ℕ) → a < n → Below rows a a
+Reflexive n rows = (a : ℕ) → a < n → HasBit rows a a
 
 -- the table of rows is transitive
 abbrev pub Transitive : List ℕ → Type 0
-Transitive rows = (t : ℕ × ℕ × ℕ) → Below rows t.0 t.1 → Below rows t.1 t.2 → Below rows t.0 t.2
+Transitive rows = (t : ℕ × ℕ × ℕ) → HasBit rows t.0 t.1 → HasBit rows t.1 t.2 → HasBit rows t.0 t.2
 
 -- the table of rows relates only numbers below n
 abbrev pub OnRoles : ℕ → List ℕ → Type 0
-OnRoles n rows = (a b : ℕ) → Below rows a b → (a < n) × (b < n)
+OnRoles n rows = (a b : ℕ) → HasBit rows a b → (a < n) × (b < n)
 
 -- only bits below n are set
 abbrev pub FlaggedRoles : ℕ → ℕ → Type 0

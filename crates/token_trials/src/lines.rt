@@ -38,7 +38,7 @@ pub enum Which {
 
 /// A call, and its answer. The fields have no names: the scripts are tables of such lines, which names would make no plainer.
 #[derive(Clone, Copy)]
-pub struct Line(
+pub struct ScriptLine(
     pub Who,
     pub Deed,
     pub Place,
@@ -46,16 +46,16 @@ pub struct Line(
     pub Result<(), Refusal>,
 );
 
-impl Line {
+impl ScriptLine {
     /// Whether the line is for the wider board.
     pub fn is_wide(&self) -> bool {
-        let Line(_, _, place, _, _) = self;
+        let ScriptLine(_, _, place, _, _) = self;
         matches!(place, Place::Wide | Place::WideFrom(_))
     }
 
     /// Whether the call is accepted.
     pub fn is_fine(&self) -> bool {
-        let Line(_, _, _, _, answer) = self;
+        let ScriptLine(_, _, _, _, answer) = self;
         answer.is_ok()
     }
 }

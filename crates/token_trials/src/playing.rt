@@ -1,5 +1,5 @@
 //! Playing a script on a board and on one with a concept more, and comparing each answer with the script's.
-use crate::lines::{Deed, Line, Place, Which, Who};
+use crate::lines::{Deed, Place, ScriptLine, Which, Who};
 use crate::score::Score;
 use board::board::OpenBoard;
 use grades::kind::GradeKind;
@@ -7,7 +7,7 @@ use grades::plain::Plain;
 use piles::marks::Marks;
 use piles::pile::Pile;
 use piles::ring::Ring;
-use staging::hands::{Desk, Hand, Shown};
+use staging::hands::{Hand, Session, Shown};
 use staging::trouble::Trouble;
 use terms::terms::Terms;
 
@@ -42,17 +42,17 @@ impl Hands {
 }
 
 /// One deed with one hand.
-fn act<K: GradeKind, P: Pile>(desk: &mut Desk<K, P>, deed: Deed, hand: Hand) -> Shown {
+fn act<K: GradeKind, P: Pile>(session: &mut Session<K, P>, deed: Deed, hand: Hand) -> Shown {
     match deed {
-        Deed::Take => desk.take(hand),
+        Deed::Take => session.take(hand),
         Deed::Step => Shown {
-            answer: desk.step(&hand),
+            answer: session.step(&hand),
             hand,
         },
-        Deed::Lower => desk.lower(hand),
-        Deed::Recheck => desk.recheck(hand),
+        Deed::Lower => session.lower(hand),
+        Deed::Recheck => session.recheck(hand),
         Deed::Run => Shown {
-            answer: desk.run(),
+            answer: session.run(),
             hand,
         },
     }
@@ -60,7 +60,7 @@ fn act<K: GradeKind, P: Pile>(desk: &mut Desk<K, P>, deed: Deed, hand: Hand) -> 
 
 /// One deed with one hand and another pile, of a size, that holds at most one number. A rejected deed leaves the pile.
 fn act_with_other<K: GradeKind, P: Pile>(
-    desk: &mut Desk<K, P>,
+    session: &mut Session<K, P>,
     size: usize,
     number: Option<u16>,
     deed: Deed,
@@ -73,7 +73,7 @@ fn act_with_other<K: GradeKind, P: Pile>(
         let _ = other.put(x);
     }
     let count = other.count();
-    let mut elsewhere = Desk::new(&mut *desk.board, &mut other, desk.terms);
+    let mut elsewhere = Session::new(&mut *session.board, &mut other, session.terms);
     let shown = act(&mut elsewhere, deed, hand);
     if shown.answer.is_err() {
         score.expect(other.count() == count && number.is_none_or(|x| other.holds(x)));
@@ -83,16 +83,16 @@ fn act_with_other<K: GradeKind, P: Pile>(
 
 /// One deed with one hand, where the line says, which is answered as the line says. Answers the hand after it.
 fn act_at<K: GradeKind, P: Pile>(
-    desk: &mut Desk<K, P>,
-    line: Line,
+    session: &mut Session<K, P>,
+    line: ScriptLine,
     hand: Hand,
     score: &mut Score,
 ) -> Hand {
-    let Line(_, deed, place, _, expected) = line;
+    let ScriptLine(_, deed, place, _, expected) = line;
     let Shown { hand, answer } = match place {
-        Place::Board | Place::Wide => act(desk, deed, hand),
-        Place::Other(size, number) => act_with_other(desk, size, number, deed, hand, score),
-        Place::WideFrom(number) => act_with_other(desk, SIZE, Some(number), deed, hand, score),
+        Place::Board | Place::Wide => act(session, deed, hand),
+        Place::Other(size, number) => act_with_other(session, size, number, deed, hand, score),
+        Place::WideFrom(number) => act_with_other(session, SIZE, Some(number), deed, hand, score),
     };
     score.expect(answer == expected);
     hand
@@ -100,20 +100,20 @@ fn act_at<K: GradeKind, P: Pile>(
 
 /// One line with the hand of the one whose line it is.
 fn play_line<K: GradeKind, P: Pile>(
-    desk: &mut Desk<K, P>,
-    line: Line,
+    session: &mut Session<K, P>,
+    line: ScriptLine,
     hands: Hands,
     score: &mut Score,
 ) -> Hands {
     let Hands { own, foreign } = hands;
-    let Line(who, _, _, _, _) = line;
+    let ScriptLine(who, _, _, _, _) = line;
     match who {
         Who::Own => Hands {
-            own: act_at(desk, line, own, score),
+            own: act_at(session, line, own, score),
             foreign,
         },
         Who::Foreign => Hands {
-            foreign: act_at(desk, line, foreign, score),
+            foreign: act_at(session, line, foreign, score),
             own,
         },
     }
@@ -121,8 +121,8 @@ fn play_line<K: GradeKind, P: Pile>(
 
 impl<'s> Sheets<'s> {
     /// The terms that a line is played with.
-    fn of(&self, line: Line) -> &'s Terms<'s> {
-        let Line(_, _, _, which, _) = line;
+    fn of(&self, line: ScriptLine) -> &'s Terms<'s> {
+        let ScriptLine(_, _, _, which, _) = line;
         match which {
             Which::Same => self.plain,
             Which::ConceptMore => self.wider,
@@ -134,7 +134,7 @@ impl<'s> Sheets<'s> {
     /// steps.
     pub fn play<P: Pile>(
         &self,
-        script: &[Line],
+        script: &[ScriptLine],
         shows: bool,
         words: &mut [u16],
         pile: &mut P,
@@ -152,11 +152,11 @@ impl<'s> Sheets<'s> {
         for line in script.iter().filter(|line| shows || line.is_fine()) {
             let terms = self.of(*line);
             hands = if line.is_wide() {
-                let mut desk = Desk::new(&mut wide, &mut ring, terms);
-                play_line(&mut desk, *line, hands, score)
+                let mut session = Session::new(&mut wide, &mut ring, terms);
+                play_line(&mut session, *line, hands, score)
             } else {
-                let mut desk = Desk::new(&mut board, pile, terms);
-                play_line(&mut desk, *line, hands, score)
+                let mut session = Session::new(&mut board, pile, terms);
+                play_line(&mut session, *line, hands, score)
             };
         }
         hands.end()?;

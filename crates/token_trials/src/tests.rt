@@ -1,5 +1,5 @@
 //! Playing the scripts on boards over a sheet, one with a concept more and one with a role more.
-use crate::lines::Line;
+use crate::lines::ScriptLine;
 use crate::playing::{Hands, Sheets};
 use crate::score::Score;
 use crate::scripts::{EXCHANGED, NOT_HELD, OWN_LEASE, TOO_HIGH};
@@ -30,7 +30,11 @@ const MOST: usize = 4;
 
 /// Plays the script without the calls that are to be rejected, and then with them, also with a pile of the other sort: the words and the count
 /// of steps are the same.
-fn compare(script: &[Line], sheets: &Sheets, score: &mut Score) -> Result<(), Trouble<Hands>> {
+fn compare(
+    script: &[ScriptLine],
+    sheets: &Sheets,
+    score: &mut Score,
+) -> Result<(), Trouble<Hands>> {
     let mut list = [0; CONCEPTS];
     let mut chain = [0; CONCEPTS];
     let mut marks = Marks::new(&mut list);

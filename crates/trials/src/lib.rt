@@ -3,7 +3,7 @@
 
 #[cfg(test)]
 mod tests {
-    use listing::text::{PAGE, list};
+    use listing::classification::{PAGE, list};
     use random_sheets::{Random, Size, damaged, random_sheet};
     use reference::{Room, expected_output, first_fault};
     use sheet::fault::Layer;

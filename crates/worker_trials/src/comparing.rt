@@ -2,7 +2,7 @@
 use crate::history::Course;
 use crate::slots::Slots;
 use crate::trial::CONCEPTS;
-use board::closed::ClosedBoard;
+use board::board::ClosedBoard;
 use grades::kind::GradeKind;
 use reference::{AtPoint, Kind, Room, Table, Vocabulary, saturate};
 use rejections::Rejection;

@@ -5,7 +5,7 @@ use piles::pile::Pile;
 use random_sheets::Random;
 use rejections::Rejection;
 use saturation::Outcome;
-use staging::hands::{Desk, Hand, Refusal, Shown};
+use staging::hands::{Hand, Refusal, Session, Shown};
 use std::fmt;
 
 /// What happened in some histories.
@@ -67,8 +67,12 @@ impl Course {
 }
 
 /// Takes a concept into the empty hand, if one is queued.
-fn take_one<K: GradeKind, P: Pile>(desk: &mut Desk<K, P>, hand: Hand, course: &mut Course) -> Hand {
-    let Shown { hand, answer } = desk.take(hand);
+fn take_one<K: GradeKind, P: Pile>(
+    session: &mut Session<K, P>,
+    hand: Hand,
+    course: &mut Course,
+) -> Hand {
+    let Shown { hand, answer } = session.take(hand);
     match answer {
         Ok(()) => count(&mut course.tally.taken),
         Err(Refusal::Rejected(Rejection::EmptyPile)) => {}
@@ -78,8 +82,8 @@ fn take_one<K: GradeKind, P: Pile>(desk: &mut Desk<K, P>, hand: Hand, course: &m
 }
 
 /// Shows the lease in hand to the board for a step.
-fn step_one<K: GradeKind, P: Pile>(desk: &mut Desk<K, P>, hand: &Hand, course: &mut Course) {
-    match desk.step(hand) {
+fn step_one<K: GradeKind, P: Pile>(session: &mut Session<K, P>, hand: &Hand, course: &mut Course) {
+    match session.step(hand) {
         Ok(()) => count(&mut course.tally.steps),
         Err(Refusal::Rejected(Rejection::UnfitLease)) => count(&mut course.tally.refused),
         Err(Refusal::Rejected(Rejection::NothingWaits)) => {}
@@ -89,11 +93,11 @@ fn step_one<K: GradeKind, P: Pile>(desk: &mut Desk<K, P>, hand: &Hand, course: &
 
 /// Shows the lease in hand to the board for a lowering.
 fn lower_one<K: GradeKind, P: Pile>(
-    desk: &mut Desk<K, P>,
+    session: &mut Session<K, P>,
     hand: Hand,
     course: &mut Course,
 ) -> Hand {
-    let Shown { hand, answer } = desk.lower(hand);
+    let Shown { hand, answer } = session.lower(hand);
     if let Err(refusal) = answer {
         count(&mut course.tally.refused);
         course.expect(refusal == Refusal::Rejected(Rejection::UnfitLease));
@@ -103,7 +107,7 @@ fn lower_one<K: GradeKind, P: Pile>(
 
 /// Shows the lowered lease in hand to the board, if it is owed to it or may go astray.
 fn recheck_one<K: GradeKind, P: Pile>(
-    desk: &mut Desk<K, P>,
+    session: &mut Session<K, P>,
     hand: Hand,
     owed_here: bool,
     course: &mut Course,
@@ -114,13 +118,13 @@ fn recheck_one<K: GradeKind, P: Pile>(
         }
         count(&mut course.tally.astray);
     }
-    let Shown { hand, answer: _ } = desk.recheck(hand);
+    let Shown { hand, answer: _ } = session.recheck(hand);
     hand
 }
 
 /// A worker without a token takes, one with a lease steps or lowers, one that owes a recheck rechecks.
 fn act<K: GradeKind, P: Pile>(
-    desk: &mut Desk<K, P>,
+    session: &mut Session<K, P>,
     side: Side,
     slot: Slot,
     course: &mut Course,
@@ -128,45 +132,45 @@ fn act<K: GradeKind, P: Pile>(
     let Slot { hand, side: owed } = slot;
     match &hand {
         Hand::Empty => Slot {
-            hand: take_one(desk, hand, course),
+            hand: take_one(session, hand, course),
             side,
         },
         Hand::Holding(_) => {
             if course.random.once_in(3) {
                 return Slot {
-                    hand: lower_one(desk, hand, course),
+                    hand: lower_one(session, hand, course),
                     side,
                 };
             }
-            step_one(desk, &hand, course);
+            step_one(session, &hand, course);
             Slot { hand, side }
         }
         Hand::Owing(_) => Slot {
-            hand: recheck_one(desk, hand, owed == side, course),
+            hand: recheck_one(session, hand, owed == side, course),
             side: owed,
         },
     }
 }
 
 /// A run of a few steps, once in a while.
-fn run_some<K: GradeKind, P: Pile>(desk: &mut Desk<K, P>, course: &mut Course) {
+fn run_some<K: GradeKind, P: Pile>(session: &mut Session<K, P>, course: &mut Course) {
     if !course.random.once_in(12) {
         return;
     }
     let budget = course.random.below(4) as u64;
-    let before = desk.board.steps();
-    let Ok(ran) = desk.board.run(desk.terms, desk.pile, budget) else {
+    let before = session.board.steps();
+    let Ok(ran) = session.board.run(session.terms, session.pile, budget) else {
         course.expect(false);
         return;
     };
-    course.expect(ran.steps <= budget && desk.board.steps() == before.saturating_add(ran.steps));
+    course.expect(ran.steps <= budget && session.board.steps() == before.saturating_add(ran.steps));
     course.expect(ran.outcome != Outcome::Spent || ran.steps == budget);
 }
 
 /// One worker acts on one of the boards, and another is next.
 fn turn<K: GradeKind, P: Pile, Q: Pile>(
-    first: &mut Desk<K, P>,
-    second: &mut Desk<K, Q>,
+    first: &mut Session<K, P>,
+    second: &mut Session<K, Q>,
     slots: Slots,
     course: &mut Course,
 ) -> Slots {
@@ -187,8 +191,8 @@ fn turn<K: GradeKind, P: Pile, Q: Pile>(
 
 /// The workers act for a while.
 pub fn work<K: GradeKind, P: Pile, Q: Pile>(
-    first: &mut Desk<K, P>,
-    second: &mut Desk<K, Q>,
+    first: &mut Session<K, P>,
+    second: &mut Session<K, Q>,
     slots: Slots,
     course: &mut Course,
 ) -> Slots {

@@ -1,7 +1,7 @@
 //! What the workers have in their hands, and how it is spent at the end.
 use grades::kind::GradeKind;
 use piles::pile::Pile;
-use staging::hands::{Desk, Hand, Shown};
+use staging::hands::{Hand, Session, Shown};
 use staging::trouble::Trouble;
 
 /// One of the two boards.
@@ -30,14 +30,14 @@ impl Slot {
     }
 
     /// Spends what is owed to the board and, if the board accepts it, a lease.
-    fn spend<K: GradeKind, P: Pile>(self, desk: &mut Desk<K, P>, side: Side) -> Slot {
+    fn spend<K: GradeKind, P: Pile>(self, session: &mut Session<K, P>, side: Side) -> Slot {
         let Slot { hand, side: owed } = self;
-        let Shown { hand, answer } = desk.lower(hand);
+        let Shown { hand, answer } = session.lower(hand);
         let owed = if answer.is_ok() { side } else { owed };
         if owed != side {
             return Slot { hand, side: owed };
         }
-        let Shown { hand, answer: _ } = desk.recheck(hand);
+        let Shown { hand, answer: _ } = session.recheck(hand);
         Slot { hand, side }
     }
 }
@@ -49,12 +49,12 @@ impl Slots {
     }
 
     /// Spends at the board what it accepts and what is owed to it.
-    pub fn spend<K: GradeKind, P: Pile>(self, desk: &mut Desk<K, P>, side: Side) -> Slots {
+    pub fn spend<K: GradeKind, P: Pile>(self, session: &mut Session<K, P>, side: Side) -> Slots {
         let Slots([one, two, three]) = self;
         Slots([
-            one.spend(desk, side),
-            two.spend(desk, side),
-            three.spend(desk, side),
+            one.spend(session, side),
+            two.spend(session, side),
+            three.spend(session, side),
         ])
     }
 

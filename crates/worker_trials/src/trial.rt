@@ -11,7 +11,7 @@ use piles::ring::Ring;
 use reference::Kind;
 use rejections::Rejection;
 use saturation::Outcome;
-use staging::hands::{Desk, Hand, Shown};
+use staging::hands::{Hand, Session, Shown};
 use staging::sheets::with_terms;
 use staging::trouble::Trouble;
 use std::alloc::Global;
@@ -41,7 +41,7 @@ struct Trial<'t, K> {
     kind: K,
 }
 
-/// Does all the jobs at the lease's concept. The board comes without a desk: with one the checker finds the pile at another lifetime.
+/// Does all the jobs at the lease's concept. The board comes without a session: with one the checker finds the pile at another lifetime.
 fn exhaust<K: GradeKind, Q: Pile>(
     board: &mut OpenBoard<K>,
     pile: &mut Q,
@@ -56,15 +56,15 @@ fn exhaust<K: GradeKind, Q: Pile>(
     }
 }
 
-/// Lowers the lease on a board, and shows the lowered lease at the desk of another.
+/// Lowers the lease on a board, and shows the lowered lease in a session of another.
 fn lend<K: GradeKind, P: Pile>(
     board: &mut OpenBoard<K>,
     lease: Lease,
-    desk: &mut Desk<K, P>,
+    session: &mut Session<K, P>,
 ) -> Hand {
     match board.lower(lease) {
         Ok(lowered) => {
-            let Shown { hand, answer: _ } = desk.recheck(Hand::Owing(lowered));
+            let Shown { hand, answer: _ } = session.recheck(Hand::Owing(lowered));
             hand
         }
         Err(
@@ -78,17 +78,17 @@ fn lend<K: GradeKind, P: Pile>(
 
 /// Brings back into sight what a recheck on another board left waiting: a fresh board is worked through, and each of its lowered leases,
 /// which it does not need itself, is shown to the board.
-fn heal<K: GradeKind, P: Pile>(desk: &mut Desk<K, P>, kind: K) -> Result<(), Trouble<Slots>> {
+fn heal<K: GradeKind, P: Pile>(session: &mut Session<K, P>, kind: K) -> Result<(), Trouble<Slots>> {
     let mut words = [0; WORDS];
     let mut list = [0; CONCEPTS];
     let mut marks = Marks::new(&mut list);
-    let mut board = OpenBoard::make(desk.terms, &mut words, &mut marks, kind);
+    let mut board = OpenBoard::make(session.terms, &mut words, &mut marks, kind);
     for _ in 0..10000u16 {
         let Ok(lease) = board.take(&mut marks) else {
             return Ok(());
         };
-        exhaust(&mut board, &mut marks, desk.terms, &lease);
-        match lend(&mut board, lease, desk) {
+        exhaust(&mut board, &mut marks, session.terms, &lease);
+        match lend(&mut board, lease, session) {
             Hand::Empty => {}
             hand => {
                 let kept = Slot {
@@ -104,15 +104,15 @@ fn heal<K: GradeKind, P: Pile>(desk: &mut Desk<K, P>, kind: K) -> Result<(), Tro
 
 /// Runs to the end. Where a recheck went astray, a job may be out of sight, and is brought back first.
 fn finish<K: GradeKind, P: Pile>(
-    desk: &mut Desk<K, P>,
+    session: &mut Session<K, P>,
     kind: K,
     course: &mut Course,
 ) -> Result<(), Trouble<Slots>> {
-    let mut answer = desk.run();
+    let mut answer = session.run();
     if answer.is_err() && course.astray {
         count(&mut course.tally.healed);
-        heal(desk, kind)?;
-        answer = desk.run();
+        heal(session, kind)?;
+        answer = session.run();
     }
     answer.map_err(|_| Trouble::Differs("a run did not finish"))
 }
@@ -144,60 +144,53 @@ impl<'t, K: GradeKind> Trial<'t, K> {
     }
 
     /// One single run on a board of its own says what the other classifier says.
-    fn compare_single(
-        &self,
-        words: &mut [u16; WORDS],
-        course: &mut Course,
-    ) -> Result<(), Trouble<Slots>> {
+    fn compare_single(&self, course: &mut Course) -> Result<[u16; WORDS], Trouble<Slots>> {
+        let mut words = [0; WORDS];
         let mut list = [0; CONCEPTS];
         let mut ring = Ring::new(&mut list);
         let terms = self.truth.terms;
-        let mut board = OpenBoard::make(terms, words, &mut ring, self.kind);
-        let mut desk = Desk::new(&mut board, &mut ring, terms);
-        finish(&mut desk, self.kind, course)?;
-        self.truth.check_board(&board.close(), course)
+        let mut board = OpenBoard::make(terms, &mut words, &mut ring, self.kind);
+        let mut session = Session::new(&mut board, &mut ring, terms);
+        finish(&mut session, self.kind, course)?;
+        self.truth.check_board(&board.close(), course)?;
+        Ok(words)
     }
 
     /// Three workers share two boards, which then say what the other classifier says.
-    fn compare_shared(
-        &self,
-        first_words: &mut [u16; WORDS],
-        second_words: &mut [u16; WORDS],
-        course: &mut Course,
-    ) -> Result<(), Trouble<Slots>> {
+    fn compare_shared(&self, course: &mut Course) -> Result<[[u16; WORDS]; 2], Trouble<Slots>> {
+        let mut first_words = [0; WORDS];
+        let mut second_words = [0; WORDS];
         let mut list = [0; CONCEPTS];
         let mut marks = Marks::new(&mut list);
         let mut chain = [0; CONCEPTS];
         let mut ring = Ring::new(&mut chain);
         let terms = self.truth.terms;
-        let mut first = OpenBoard::make(terms, first_words, &mut marks, self.kind);
-        let mut second = OpenBoard::make(terms, second_words, &mut ring, self.kind);
+        let mut first = OpenBoard::make(terms, &mut first_words, &mut marks, self.kind);
+        let mut second = OpenBoard::make(terms, &mut second_words, &mut ring, self.kind);
         let mut slots = Slots::free();
         for _ in 0..3u8 {
-            let mut here = Desk::new(&mut first, &mut marks, terms);
-            let mut there = Desk::new(&mut second, &mut ring, terms);
+            let mut here = Session::new(&mut first, &mut marks, terms);
+            let mut there = Session::new(&mut second, &mut ring, terms);
             slots = work(&mut here, &mut there, slots, course);
             first = self.pause(first, &mut marks, course);
             second = self.pause(second, &mut ring, course);
         }
-        let mut here = Desk::new(&mut first, &mut marks, terms);
-        let mut there = Desk::new(&mut second, &mut ring, terms);
+        let mut here = Session::new(&mut first, &mut marks, terms);
+        let mut there = Session::new(&mut second, &mut ring, terms);
         let rest = slots.spend(&mut here, Side::First);
         rest.spend(&mut there, Side::Second).end()?;
         finish(&mut here, self.kind, course)?;
         finish(&mut there, self.kind, course)?;
         self.truth.check_board(&first.close(), course)?;
-        self.truth.check_board(&second.close(), course)
+        self.truth.check_board(&second.close(), course)?;
+        Ok([first_words, second_words])
     }
 
     /// Compares the shared boards of a vocabulary, a single run and the other classifier: all grades of the boards, found and done, are the
     /// same, whatever the order of the work.
     fn compare_boards(&self, course: &mut Course) -> Result<(), Trouble<Slots>> {
-        let mut single = [0; WORDS];
-        let mut first = [0; WORDS];
-        let mut second = [0; WORDS];
-        self.compare_single(&mut single, course)?;
-        self.compare_shared(&mut first, &mut second, course)?;
+        let single = self.compare_single(course)?;
+        let [first, second] = self.compare_shared(course)?;
         let concepts = self.truth.terms.concepts().len();
         if concepts > CONCEPTS
             || single[concepts..] != first[concepts..]

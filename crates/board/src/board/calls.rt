@@ -1,13 +1,10 @@
 //! Taking, stepping, lowering and rechecking: how workers share a board.
-// `sane` stands in each call, since a board has no bound on its kind, which an invariant over the kind would need.
-ghost use Rattle.std.specs.Prelude.{◌≡◌, ◌<◌, ◌≤◌, true, false, length, MatchResult};
+ghost use Rattle.std.specs.Prelude.{◌≡◌, ◌<◌, MatchResult, MatchBool, OnErr};
 ghost use Rattle.terms.specs.Views.{terms_of};
 ghost use Rattle.saturation.specs.Effects.{Rechecked};
-ghost use Rattle.board.specs.Views.{content_of, moment_of};
-ghost use Rattle.board.specs.Frames.{Framed, Kept};
-ghost use Rattle.board.specs.Raises.{Ready};
-ghost use Rattle.board.specs.Refusals.{IsHeld, Unready};
-ghost use Rattle.board.specs.Calls.{StaysSane, Taken, Tried, Stepped, LoweredBy, RecheckedBy};
+ghost use Rattle.board.specs.Views.{view, moment, SameList};
+ghost use Rattle.board.specs.Rejections.{IsHeld, Ready, Unready};
+ghost use Rattle.board.specs.Calls.{Taken, Stepped, LoweredBy, RecheckedBy};
 
 use super::OpenBoard;
 use super::states::Change;
@@ -22,9 +19,11 @@ use terms::terms::Terms;
 impl<'a, K: GradeKind> OpenBoard<'a, K> {
     /// Whether the terms and the pile go with the board.
     pub(crate) fn admit<P: Pile>(&self, terms: &Terms, pile: &P) -> Result<(), Rejection>
-        ensures { MatchResult result (λ _. Ready (terms_of terms.now) P.Pile.numbers self.now pile.now) (Unready (terms_of terms.now) self.now.counts.concepts self.now.counts.roles (P.Pile.numbers pile.now).size) }
+        ensures { let a = moment self.now pile.now in
+            MatchResult result (λ _. Ready (terms_of terms.now) P.shape a)
+            (Unready (terms_of terms.now) P.shape a) }
     {
-        if !self.counts.go_with(terms) {
+        if !self.goes_with(terms) {
             return Err(Rejection::OtherTerms);
         }
         if pile.size() < self.counts.concepts {
@@ -35,20 +34,17 @@ impl<'a, K: GradeKind> OpenBoard<'a, K> {
 
     /// Whether `c` is a concept of the board that is held.
     fn is_held(&self, c: u16) -> bool
-        ensures held { result ≡ true → IsHeld self.now.counts.concepts (content_of self.now) c }
-        ensures free { result ≡ false → IsHeld self.now.counts.concepts (content_of self.now) c → ⊥ }
+        ensures { MatchBool result (IsHeld (view self.now) c) (¬ IsHeld (view self.now) c) }
     {
-        let c = usize::from(c);
-        c < self.counts.concepts && matches!(self.state(c), State::Held)
+        usize::from(c) < self.counts.concepts && matches!(self.state(c), State::Held)
     }
 
     /// Draws a queued concept from the pile and makes it held. The lease names it.
     // By `let .. else`, which is as plain as `ok_or(..)?`.
     pub fn take<P: Pile>(&mut self, pile: &mut P) -> Result<Lease, Rejection>
-        ensures kept { Kept P.Pile.numbers self.old pile.old self.new pile.new }
-        ensures sane { StaysSane K.GradeKind.kind self.old self.new }
-        ensures taken { Taken P.Pile.numbers self.old pile.old self.new pile.new result }
-        ensures tried { Tried (P.Pile.front pile.old) self.old result }
+        ensures list { SameList self.old self.new }
+        ensures taken { Taken P.shape (moment self.old pile.old) (moment self.new pile.new) result }
+        ensures rejected { OnErr result (self.new ≡ self.old) }
     {
         if P::size(pile) < self.counts.concepts {
             return Err(Rejection::SmallPile);
@@ -70,9 +66,10 @@ impl<'a, K: GradeKind> OpenBoard<'a, K> {
         pile: &mut P,
         lease: &Lease,
     ) -> Result<Job, Rejection>
-        ensures kept { Kept P.Pile.numbers self.old pile.old self.new pile.new }
-        ensures sane { StaysSane K.GradeKind.kind self.old self.new }
-        ensures stepped { Stepped (terms_of terms.now) K.GradeKind.kind P.Pile.numbers lease.now self.old pile.old self.new pile.new result }
+        ensures list { SameList self.old self.new }
+        ensures stepped { Stepped (terms_of terms.now) K.kind P.shape lease.now
+            (moment self.old pile.old) (moment self.new pile.new) result }
+        ensures rejected { OnErr result (self.new ≡ self.old) }
     {
         self.admit(terms, pile)?;
         if !self.is_held(lease.concept) {
@@ -84,9 +81,9 @@ impl<'a, K: GradeKind> OpenBoard<'a, K> {
 
     /// Gives a lease back and makes its concept idle. The lowered lease asks for a recheck.
     pub fn lower(&mut self, lease: Lease) -> Result<LoweredLease, Refused<Lease>>
-        ensures kept { Framed self.old self.new }
-        ensures sane { StaysSane K.GradeKind.kind self.old self.new }
-        ensures lowered { LoweredBy lease self.old self.new result }
+        ensures list { SameList self.old self.new }
+        ensures lowered { LoweredBy lease (view self.old) (view self.new) result }
+        ensures rejected { OnErr result (self.new ≡ self.old) }
     {
         if usize::from(lease.concept) < self.counts.concepts
             && self.shift(lease.concept, Change::Lower)
@@ -104,10 +101,11 @@ impl<'a, K: GradeKind> OpenBoard<'a, K> {
     /// Queues `c` if it is idle and a job waits there.
     // Outside a session, since `recheck` hands over parts of other lifetimes.
     fn review<P: Pile>(&mut self, terms: &Terms, pile: &mut P, c: u16)
-        requires ready { Ready (terms_of terms.now) P.Pile.numbers self.old pile.old }
-        requires left { c < length (terms_of terms.now).concepts }
-        ensures kept { Kept P.Pile.numbers self.old pile.old self.new pile.new }
-        ensures rechecked { Rechecked (terms_of terms.now) c (moment_of P.Pile.numbers self.old pile.old) (moment_of P.Pile.numbers self.new pile.new) }
+        requires ready { Ready (terms_of terms.now) P.shape (moment self.old pile.old) }
+        requires within { c < (view self.old).concepts }
+        ensures list { SameList self.old self.new }
+        ensures rechecked { Rechecked (terms_of terms.now) P.shape c (moment self.old pile.old)
+            (moment self.new pile.new) }
     {
         if self.first(terms, c).is_some() {
             self.queue(pile, c, Change::Recheck);
@@ -121,9 +119,10 @@ impl<'a, K: GradeKind> OpenBoard<'a, K> {
         pile: &mut P,
         lowered: LoweredLease,
     ) -> Result<(), Refused<LoweredLease>>
-        ensures kept { Kept P.Pile.numbers self.old pile.old self.new pile.new }
-        ensures sane { StaysSane K.GradeKind.kind self.old self.new }
-        ensures rechecked { RecheckedBy (terms_of terms.now) P.Pile.numbers lowered self.old pile.old self.new pile.new result }
+        ensures list { SameList self.old self.new }
+        ensures rechecked { RecheckedBy (terms_of terms.now) P.shape lowered
+            (moment self.old pile.old) (moment self.new pile.new) result }
+        ensures rejected { OnErr result (self.new ≡ self.old) }
     {
         // Not by `?`, since the token goes back with the rejection.
         if let Err(rejection) = self.admit(terms, pile) {

@@ -1,15 +1,14 @@
 //! What the two joining rules draw: they have a link job and an implication job as premises, of one concept.
 ghost use Rattle.std.specs.Prelude.{◌≡◌, ◌<◌};
 ghost use Rattle.terms.specs.Views.{terms_of};
-ghost use Rattle.terms.specs.Vocabularies.{concept};
-ghost use Rattle.board.specs.Views.{content_of};
+ghost use Rattle.board.specs.Views.{view};
 ghost use Rattle.board.specs.Sessions.{SessionDrawn};
 ghost use Rattle.board.specs.OwnDraws.{AnyBelow};
-ghost use Rattle.board.specs.JoinDraws.{line_of, partner, conclusion, Placed, Heads, ByPartner, ByPartners, ByRole, ByJoin, ByLink, ByFiller, ByImplication};
+ghost use Rattle.board.specs.JoinDraws.{series_of, partner, conclusion, Placed, Heads, ByPartner, ByPartners, BySpreads, ByJoin, ByLink, ByLinksAt, ByImplication};
 
+use super::finding::Series;
 use super::session::Session;
 use crate::lookup::concept_at;
-use crate::reader::finding::Line;
 use grades::kind::GradeKind;
 use piles::pile::Pile;
 use reasoning::{Fact, Job};
@@ -25,14 +24,14 @@ pub(crate) enum Partners {
     Links { by: u16, right: u16 },
 }
 
-/// Which of the two rules is used.
+/// Which of the two joining rules is used, follows or spreads.
 // An enum and no closure, since the contracts name it.
 #[derive(Clone, Copy)]
 pub(crate) enum Head {
     /// The left concept is under the right one.
-    Direct,
+    Follows,
     /// The left concept implies the right one through a transitive role.
-    Through(u16),
+    Spreads(u16),
 }
 
 /// The roles of a link and of an implication, and the grade of the premise that is given.
@@ -62,17 +61,17 @@ pub(crate) struct Implication {
 }
 
 impl Partners {
-    /// The line that they are on.
-    fn line(self) -> Line
-        ensures { result ≡ line_of self }
+    /// The series that they are on.
+    fn series(self) -> Series
+        ensures { result ≡ series_of self }
     {
         match self {
             Partners::Implications {
                 left: _,
                 role,
                 filler,
-            } => Line::Implications(role, filler),
-            Partners::Links { by, right: _ } => Line::Links(by),
+            } => Series::Implications(role, filler),
+            Partners::Links { by, right: _ } => Series::Links(by),
         }
     }
 
@@ -80,7 +79,7 @@ impl Partners {
     fn job(self, i: u16) -> Job
         ensures { result ≡ partner self i }
     {
-        self.line().job(i)
+        self.series().job(i)
     }
 
     /// What it leads to.
@@ -94,7 +93,7 @@ impl Partners {
                     role: _,
                     filler: _,
                 },
-                Head::Direct,
+                Head::Follows,
             ) => Fact::Under(left, i),
             (
                 Partners::Implications {
@@ -102,10 +101,10 @@ impl Partners {
                     role: _,
                     filler: _,
                 },
-                Head::Through(t),
+                Head::Spreads(t),
             ) => Fact::Implies(t, left, i),
-            (Partners::Links { by: _, right }, Head::Direct) => Fact::Under(i, right),
-            (Partners::Links { by: _, right }, Head::Through(t)) => Fact::Implies(t, i, right),
+            (Partners::Links { by: _, right }, Head::Follows) => Fact::Under(i, right),
+            (Partners::Links { by: _, right }, Head::Spreads(t)) => Fact::Implies(t, i, right),
         }
     }
 }
@@ -115,8 +114,8 @@ impl<'w, 'a, 't, K: GradeKind, P: Pile> Session<'w, 'a, 't, K, P> {
     fn draw_partner(&mut self, partners: Partners, head: Head, grade: u16, i: u16)
         requires placed { Placed (terms_of self.old.terms.now) partners }
         requires heads { Heads (terms_of self.old.terms.now) head }
-        requires number { i < self.old.board.now.counts.concepts }
-        ensures { SessionDrawn K.GradeKind.kind P.Pile.numbers (λ _. ByPartner K.GradeKind.kind (content_of self.old.board.now).done partners head grade i) self.old self.new }
+        requires number { i < (view self.old.board.now).concepts }
+        ensures { SessionDrawn (ByPartner partners head grade i) self.old self.new }
     {
         let met = K::meet(grade, self.board.done(partners.job(i)));
         if met != K::none() {
@@ -128,7 +127,7 @@ impl<'w, 'a, 't, K: GradeKind, P: Pile> Session<'w, 'a, 't, K, P> {
     fn draw_partners(&mut self, partners: Partners, head: Head, grade: u16)
         requires placed { Placed (terms_of self.old.terms.now) partners }
         requires heads { Heads (terms_of self.old.terms.now) head }
-        ensures { SessionDrawn K.GradeKind.kind P.Pile.numbers (λ v. ByPartners v K.GradeKind.kind (content_of self.old.board.now).done partners head grade) self.old self.new }
+        ensures { SessionDrawn (ByPartners partners head grade) self.old self.new }
     {
         // By number, as the concepts of `draw_concepts`.
         for i in 0..self.terms.concepts().len() {
@@ -136,10 +135,11 @@ impl<'w, 'a, 't, K: GradeKind, P: Pile> Session<'w, 'a, 't, K, P> {
         }
     }
 
-    /// Draws through the transitive roles between the two.
-    fn draw_roles(&mut self, partners: Partners, join: Join)
+    /// Draws through the transitive roles between the two: the rule spreads.
+    fn draw_spreads(&mut self, partners: Partners, join: Join)
         requires { Placed (terms_of self.old.terms.now) partners }
-        ensures { SessionDrawn K.GradeKind.kind P.Pile.numbers (λ v. AnyBelow v.roles (ByRole v K.GradeKind.kind (content_of self.old.board.now).done partners join)) self.old self.new }
+        ensures { SessionDrawn (AnyBelow (λ v. v.roles) (BySpreads partners join)) self.old
+            self.new }
     {
         let terms = self.terms;
         // By `as`: with `usize::from` the goals speak of the conversion's answer, and the answers to them fail.
@@ -148,7 +148,7 @@ impl<'w, 'a, 't, K: GradeKind, P: Pile> Session<'w, 'a, 't, K, P> {
                 && terms.is_below(t, join.implication as usize)
                 && terms.is_transitive(t)
             {
-                self.draw_partners(partners, Head::Through(t as u16), join.grade);
+                self.draw_partners(partners, Head::Spreads(t as u16), join.grade);
             }
         }
     }
@@ -157,22 +157,22 @@ impl<'w, 'a, 't, K: GradeKind, P: Pile> Session<'w, 'a, 't, K, P> {
     /// implication's, there is nothing.
     fn draw_join(&mut self, partners: Partners, join: Join)
         requires { Placed (terms_of self.old.terms.now) partners }
-        ensures { SessionDrawn K.GradeKind.kind P.Pile.numbers (λ v. ByJoin v K.GradeKind.kind (content_of self.old.board.now).done partners join) self.old self.new }
+        ensures { SessionDrawn (ByJoin partners join) self.old self.new }
     {
         if self
             .terms
             .is_below(join.link as usize, join.implication as usize)
         {
-            self.draw_partners(partners, Head::Direct, join.grade);
-            self.draw_roles(partners, join);
+            self.draw_partners(partners, Head::Follows, join.grade);
+            self.draw_spreads(partners, join);
         }
     }
 
     /// Draws all that a link job draws.
     pub(super) fn draw_link(&mut self, link: Link)
-        requires left { link.left < self.old.board.now.counts.concepts }
-        requires filler { link.filler < self.old.board.now.counts.concepts }
-        ensures { SessionDrawn K.GradeKind.kind P.Pile.numbers (λ v. ByLink v K.GradeKind.kind (content_of self.old.board.now).done link) self.old self.new }
+        requires left { link.left < (view self.old.board.now).concepts }
+        requires filler { link.filler < (view self.old.board.now).concepts }
+        ensures { SessionDrawn (ByLink link) self.old self.new }
     {
         for s in 0..self.terms.roles() {
             let role = s as u16;
@@ -193,10 +193,10 @@ impl<'w, 'a, 't, K: GradeKind, P: Pile> Session<'w, 'a, 't, K, P> {
     }
 
     /// Draws what an implication job draws with the links by the concept `x`, where that restricts a role to the job's left concept.
-    fn draw_filler(&mut self, implication: Implication, x: u16)
-        requires right { implication.right < self.old.board.now.counts.concepts }
-        requires by { x < self.old.board.now.counts.concepts }
-        ensures { SessionDrawn K.GradeKind.kind P.Pile.numbers (λ v. ByFiller v K.GradeKind.kind (content_of self.old.board.now).done implication x (concept v x)) self.old self.new }
+    fn draw_links(&mut self, implication: Implication, x: u16)
+        requires right { implication.right < (view self.old.board.now).concepts }
+        requires by { x < (view self.old.board.now).concepts }
+        ensures { SessionDrawn (ByLinksAt implication x) self.old self.new }
     {
         if let Concept::Restriction(r, b) = concept_at(self.terms, x) {
             if b == implication.left {
@@ -218,12 +218,12 @@ impl<'w, 'a, 't, K: GradeKind, P: Pile> Session<'w, 'a, 't, K, P> {
 
     /// Draws all that an implication job draws.
     pub(super) fn draw_implication(&mut self, implication: Implication)
-        requires { implication.right < self.old.board.now.counts.concepts }
-        ensures { SessionDrawn K.GradeKind.kind P.Pile.numbers (λ v. ByImplication v K.GradeKind.kind (content_of self.old.board.now).done implication) self.old self.new }
+        requires { implication.right < (view self.old.board.now).concepts }
+        ensures { SessionDrawn (ByImplication implication) self.old self.new }
     {
         // By number, as the concepts of `draw_concepts`.
         for x in 0..self.terms.concepts().len() {
-            self.draw_filler(implication, x as u16);
+            self.draw_links(implication, x as u16);
         }
     }
 }

@@ -1,12 +1,11 @@
 //! Making a board.
-ghost use Rattle.std.specs.Prelude.{◌≡◌, ◌+◌, ◌<◌, ◌≤◌, length};
-ghost use Rattle.rejections.specs.declared.Rejection.{Rejection as Reason};
+ghost use Rattle.std.specs.Prelude.{◌<◌, ◌≤◌, length};
 ghost use Rattle.terms.specs.Views.{terms_of};
-ghost use Rattle.board.specs.Layout.{words_needed};
-ghost use Rattle.board.specs.Frames.{Kept};
-ghost use Rattle.board.specs.Making.{FilledWords, Blank, Begun};
-ghost use Rattle.board.specs.Refusals.{MakeRejected, InOrder};
-ghost use Rattle.board.specs.Calls.{MadeBy, MadeEmpty};
+ghost use Rattle.saturation.specs.Boards.{Wide};
+ghost use Rattle.board.specs.Layout.{needed_for};
+ghost use Rattle.board.specs.Views.{view, moment, lent, LiesOver, SameList};
+ghost use Rattle.board.specs.Making.{FilledWords, Blank, Started};
+ghost use Rattle.board.specs.Calls.{MadeBy};
 
 use super::OpenBoard;
 use super::states::Change;
@@ -29,10 +28,10 @@ fn fill(words: &mut [u16], low: usize, high: usize, g: u16)
 
 impl<'a, K: GradeKind> OpenBoard<'a, K> {
     /// A board on which nothing is found.
-    fn blank(terms: &Terms, words: &'a mut [u16], kind: K) -> Self
-        requires { words_needed (length (terms_of terms.now).concepts) (terms_of terms.now).roles ≤ length words.old }
-        ensures blank { Blank (terms_of terms.now) K.GradeKind.kind words.old result }
-        ensures lent { result.words.ghost_name ≡ words.entry.ghost_name }
+    fn blank(terms: &Terms, words: &'a mut [u16], _kind: K) -> Self
+        requires { needed_for (terms_of terms.now) ≤ length words.old }
+        ensures list { LiesOver words.entry result }
+        ensures blank { Blank (terms_of terms.now) K.kind (view result) }
     {
         let counts = Counts::of(terms);
         fill(words, 0, counts.concepts, 0);
@@ -41,17 +40,18 @@ impl<'a, K: GradeKind> OpenBoard<'a, K> {
             words,
             counts,
             steps: 0,
-            kind,
+            kind: PhantomData,
             stage: PhantomData,
         }
     }
 
     /// Finds the start fact of `a`, where that is named, and queues it.
     fn start<P: Pile>(&mut self, terms: &Terms, pile: &mut P, a: u16)
-        requires begun { Begun (terms_of terms.now) K.GradeKind.kind P.Pile.numbers a self.old pile.old }
-        requires left { a < length (terms_of terms.now).concepts }
-        ensures begun { Begun (terms_of terms.now) K.GradeKind.kind P.Pile.numbers (a + 1) self.new pile.new }
-        ensures kept { Kept P.Pile.numbers self.old pile.old self.new pile.new }
+        requires wide { Wide P.shape (moment self.old pile.old) }
+        requires within { a < (view self.old).concepts }
+        ensures list { SameList self.old self.new }
+        ensures started { Started (terms_of terms.now) K.kind P.shape a (moment self.old pile.old)
+            (moment self.new pile.new) }
     {
         if terms.is_named(a) {
             self.write_found(Fact::Under(a, a), K::all());
@@ -62,10 +62,9 @@ impl<'a, K: GradeKind> OpenBoard<'a, K> {
     /// An open board without steps, for the terms, over the words and the pile. Where `check` rejects, it has no concepts or roles, and
     /// nothing is touched.
     pub fn make<P: Pile>(terms: &Terms, words: &'a mut [u16], pile: &mut P, kind: K) -> Self
-        ensures lent { result.words.ghost_name ≡ words.entry.ghost_name }
-        ensures size { (P.Pile.numbers pile.new).size ≡ (P.Pile.numbers pile.old).size }
-        ensures made { InOrder (terms_of terms.now) K.GradeKind.kind (length words.old) (P.Pile.numbers pile.old) → MadeBy (terms_of terms.now) K.GradeKind.kind P.Pile.numbers words.old result pile.new }
-        ensures empty { (e : Reason) → MakeRejected (terms_of terms.now) K.GradeKind.kind (length words.old) (P.Pile.numbers pile.old) e → MadeEmpty words.old pile.old result pile.new }
+        ensures list { LiesOver words.entry result }
+        ensures made { MadeBy (terms_of terms.now) K.kind P.shape words.old pile.old
+            (moment result pile.new) (lent result).now }
     {
         if let Err(_) = check(terms, words, pile, kind) {
             return OpenBoard {
@@ -75,7 +74,7 @@ impl<'a, K: GradeKind> OpenBoard<'a, K> {
                     roles: 0,
                 },
                 steps: 0,
-                kind,
+                kind: PhantomData,
                 stage: PhantomData,
             };
         }

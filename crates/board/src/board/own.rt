@@ -1,8 +1,8 @@
 //! What an own job draws: the rules that have one premise, and the rule of conjunctions.
 ghost use Rattle.std.specs.Prelude.{◌<◌, length};
-ghost use Rattle.board.specs.Views.{content_of};
+ghost use Rattle.board.specs.Views.{view};
 ghost use Rattle.board.specs.Sessions.{SessionDrawn};
-ghost use Rattle.board.specs.OwnDraws.{AnyBelow, ByStated, ByPair, ByConcept, ByParts, ByOwn};
+ghost use Rattle.board.specs.OwnDraws.{AnyBelow, ByStated, ByBoth, ByConcept, ByOperands, ByOwn};
 
 use super::session::Session;
 use crate::lookup::concept_at;
@@ -21,10 +21,11 @@ pub(crate) struct Known {
 }
 
 impl<'w, 'a, 't, K: GradeKind, P: Pile> Session<'w, 'a, 't, K, P> {
-    /// Draws by the stated inclusions.
+    /// Draws by the stated inclusions: the rule stated.
     fn draw_stated(&mut self, known: Known)
-        requires { known.left < self.old.board.now.counts.concepts }
-        ensures { SessionDrawn K.GradeKind.kind P.Pile.numbers (λ v. AnyBelow (length v.inclusions) (ByStated v K.GradeKind.kind known)) self.old self.new }
+        requires { known.left < (view self.old.board.now).concepts }
+        ensures { SessionDrawn (AnyBelow (λ v. length v.inclusions) (ByStated known)) self.old
+            self.new }
     {
         let terms = self.terms;
         for inclusion in terms.inclusions() {
@@ -35,12 +36,12 @@ impl<'w, 'a, 't, K: GradeKind, P: Pile> Session<'w, 'a, 't, K, P> {
         }
     }
 
-    /// Draws by `x`, a conjunction of `near` and `far`, where `near` is the right concept.
-    fn draw_pair(&mut self, known: Known, x: u16, near: u16, far: u16)
-        requires left { known.left < self.old.board.now.counts.concepts }
-        requires right { x < self.old.board.now.counts.concepts }
-        requires far { far < self.old.board.now.counts.concepts }
-        ensures { SessionDrawn K.GradeKind.kind P.Pile.numbers (λ _. ByPair K.GradeKind.kind (content_of self.old.board.now).done known x near far) self.old self.new }
+    /// Draws by `x`, a conjunction of `near` and `far`, where `near` is the right concept: the rule both.
+    fn draw_both(&mut self, known: Known, x: u16, near: u16, far: u16)
+        requires left { known.left < (view self.old.board.now).concepts }
+        requires right { x < (view self.old.board.now).concepts }
+        requires far { far < (view self.old.board.now).concepts }
+        ensures { SessionDrawn (ByBoth known x near far) self.old self.new }
     {
         if near == known.right {
             let h = self.board.done(Job::Own(known.left, far));
@@ -48,11 +49,11 @@ impl<'w, 'a, 't, K: GradeKind, P: Pile> Session<'w, 'a, 't, K, P> {
         }
     }
 
-    /// Draws by the concept `x`.
+    /// Draws by the concept `x`: the rules top, both and some.
     fn draw_concept(&mut self, known: Known, x: u16)
-        requires left { known.left < self.old.board.now.counts.concepts }
-        requires right { x < self.old.board.now.counts.concepts }
-        ensures { SessionDrawn K.GradeKind.kind P.Pile.numbers (λ v. ByConcept v K.GradeKind.kind (content_of self.old.board.now).done known x) self.old self.new }
+        requires left { known.left < (view self.old.board.now).concepts }
+        requires right { x < (view self.old.board.now).concepts }
+        ensures { SessionDrawn (ByConcept known x) self.old self.new }
     {
         match concept_at(self.terms, x) {
             Concept::Atomic => {}
@@ -62,8 +63,8 @@ impl<'w, 'a, 't, K: GradeKind, P: Pile> Session<'w, 'a, 't, K, P> {
                 }
             }
             Concept::Conjunction(d, e) => {
-                self.draw_pair(known, x, d, e);
-                self.draw_pair(known, x, e, d);
+                self.draw_both(known, x, d, e);
+                self.draw_both(known, x, e, d);
             }
             Concept::Restriction(s, d) => {
                 if d == known.right {
@@ -75,8 +76,9 @@ impl<'w, 'a, 't, K: GradeKind, P: Pile> Session<'w, 'a, 't, K, P> {
 
     /// Draws by the concepts, each by what it is made of.
     fn draw_concepts(&mut self, known: Known)
-        requires { known.left < self.old.board.now.counts.concepts }
-        ensures { SessionDrawn K.GradeKind.kind P.Pile.numbers (λ v. AnyBelow (length v.concepts) (ByConcept v K.GradeKind.kind (content_of self.old.board.now).done known)) self.old self.new }
+        requires { known.left < (view self.old.board.now).concepts }
+        ensures { SessionDrawn (AnyBelow (λ v. length v.concepts) (ByConcept known)) self.old
+            self.new }
     {
         // By number: the concept beside it would be one more parameter, with a clause that it is the concept of that number.
         for x in 0..self.terms.concepts().len() {
@@ -84,11 +86,11 @@ impl<'w, 'a, 't, K: GradeKind, P: Pile> Session<'w, 'a, 't, K, P> {
         }
     }
 
-    /// Draws by what the right concept is made of.
-    fn draw_parts(&mut self, known: Known)
-        requires left { known.left < self.old.board.now.counts.concepts }
-        requires right { known.right < self.old.board.now.counts.concepts }
-        ensures { SessionDrawn K.GradeKind.kind P.Pile.numbers (λ v. ByParts v K.GradeKind.kind known) self.old self.new }
+    /// Draws by what the right concept is made of: the rules left, right and filler.
+    fn draw_operands(&mut self, known: Known)
+        requires left { known.left < (view self.old.board.now).concepts }
+        requires right { known.right < (view self.old.board.now).concepts }
+        ensures { SessionDrawn (ByOperands known) self.old self.new }
     {
         match concept_at(self.terms, known.right) {
             Concept::Atomic | Concept::Top => {}
@@ -102,12 +104,12 @@ impl<'w, 'a, 't, K: GradeKind, P: Pile> Session<'w, 'a, 't, K, P> {
 
     /// Draws all that an own job draws.
     pub(super) fn draw_own(&mut self, known: Known)
-        requires left { known.left < self.old.board.now.counts.concepts }
-        requires right { known.right < self.old.board.now.counts.concepts }
-        ensures { SessionDrawn K.GradeKind.kind P.Pile.numbers (λ v. ByOwn v K.GradeKind.kind (content_of self.old.board.now).done known) self.old self.new }
+        requires left { known.left < (view self.old.board.now).concepts }
+        requires right { known.right < (view self.old.board.now).concepts }
+        ensures { SessionDrawn (ByOwn known) self.old self.new }
     {
         self.draw_stated(known);
-        self.draw_parts(known);
+        self.draw_operands(known);
         self.draw_concepts(known);
     }
 }

@@ -1,14 +1,11 @@
 //! Running: taking, stepping, lowering and rechecking until no job waits or a budget of steps is used.
-ghost use Rattle.std.specs.Prelude.{◌≡◌, ◌<◌, ◌≤◌, length};
+ghost use Rattle.std.specs.Prelude.{◌≡◌, OnErr};
 ghost use Rattle.terms.specs.Views.{terms_of};
-ghost use Rattle.saturation.specs.declared.State.TheVariants.{Held};
-ghost use Rattle.board.specs.Views.{content_of};
-ghost use Rattle.board.specs.Frames.{Kept};
-ghost use Rattle.board.specs.Raises.{Ready};
-ghost use Rattle.board.specs.Refusals.{IsHeld};
-ghost use Rattle.board.specs.Calls.{StaysSane, RanBy};
+ghost use Rattle.board.specs.Views.{view, moment, SameList};
+ghost use Rattle.board.specs.Rejections.{IsHeld, Ready};
+ghost use Rattle.board.specs.Calls.{RanBy};
+ghost use Rattle.board.specs.Sessions.{at, SameSession};
 ghost use Rattle.board.specs.Running.{Exhausted, Turned};
-ghost use Rattle.board.specs.Sessions.{SameSession};
 
 use super::OpenBoard;
 use super::session::Session;
@@ -29,10 +26,10 @@ pub struct Ran {
 impl<'w, 'a, 't, K: GradeKind, P: Pile> Session<'w, 'a, 't, K, P> {
     /// Steps at `c`, which is held, until no job waits there or the budget is used, and says how often.
     fn exhaust(&mut self, c: u16, budget: u64) -> u64
-        requires left { c < self.old.board.now.counts.concepts }
-        requires held { (content_of self.old.board.now).state c ≡ Held }
+        requires { IsHeld (view self.old.board.now) c }
         ensures same { SameSession self.old self.new }
-        ensures exhausted { Exhausted (terms_of self.old.terms.now) K.GradeKind.kind P.Pile.numbers c budget result self.old.board.now self.old.pile.now self.new.board.now self.new.pile.now }
+        ensures exhausted { Exhausted (terms_of self.old.terms.now) K.kind P.shape c budget result
+            (at self.old) (at self.new) }
     {
         for steps in 0..budget {
             if self.work(c).is_none() {
@@ -44,9 +41,10 @@ impl<'w, 'a, 't, K: GradeKind, P: Pile> Session<'w, 'a, 't, K, P> {
 
     /// Steps at the lease's concept, lowers the lease and rechecks, and says how many steps that took.
     fn turn(&mut self, lease: Lease, budget: u64) -> u64
-        requires { IsHeld self.old.board.now.counts.concepts (content_of self.old.board.now) lease.concept }
+        requires { IsHeld (view self.old.board.now) lease.concept }
         ensures same { SameSession self.old self.new }
-        ensures turned { Turned (terms_of self.old.terms.now) K.GradeKind.kind P.Pile.numbers lease.concept budget result self.old.board.now self.old.pile.now self.new.board.now self.new.pile.now }
+        ensures turned { Turned (terms_of self.old.terms.now) K.kind P.shape lease.concept budget
+            result (at self.old) (at self.new) }
     {
         let steps = self.exhaust(lease.concept, budget);
         let lowered = self.board.lower(lease).unwrap();
@@ -65,9 +63,11 @@ impl<'a, K: GradeKind> OpenBoard<'a, K> {
         lease: Lease,
         budget: u64,
     ) -> u64
-        requires ready { Ready (terms_of terms.now) P.Pile.numbers self.old pile.old }
-        requires held { IsHeld self.old.counts.concepts (content_of self.old) lease.concept }
-        ensures { Turned (terms_of terms.now) K.GradeKind.kind P.Pile.numbers lease.concept budget result self.old pile.old self.new pile.new }
+        requires ready { Ready (terms_of terms.now) P.shape (moment self.old pile.old) }
+        requires held { IsHeld (view self.old) lease.concept }
+        ensures list { SameList self.old self.new }
+        ensures turned { Turned (terms_of terms.now) K.kind P.shape lease.concept budget result
+            (moment self.old pile.old) (moment self.new pile.new) }
     {
         let mut session = Session {
             board: self,
@@ -84,9 +84,10 @@ impl<'a, K: GradeKind> OpenBoard<'a, K> {
         pile: &mut P,
         budget: u64,
     ) -> Result<Ran, Rejection>
-        ensures kept { Kept P.Pile.numbers self.old pile.old self.new pile.new }
-        ensures sane { StaysSane K.GradeKind.kind self.old self.new }
-        ensures ran { RanBy (terms_of terms.now) K.GradeKind.kind P.Pile.numbers budget self.old pile.old self.new pile.new result }
+        ensures list { SameList self.old self.new }
+        ensures ran { RanBy (terms_of terms.now) K.kind P.shape budget (moment self.old pile.old)
+            (moment self.new pile.new) result }
+        ensures rejected { OnErr result (self.new ≡ self.old) }
     {
         self.admit(terms, pile)?;
         let mut steps = 0;

@@ -1,9 +1,10 @@
 //! The states of concepts, and what a call and a state together lead to.
-ghost use Rattle.std.specs.Prelude.{◌≡◌, ◌<◌, ◌≤◌, true};
+ghost use Rattle.std.specs.Prelude.{◌≡◌, ◌<◌, true};
+ghost use Rattle.std.specs.Bool.{OnFalse};
 ghost use Rattle.saturation.specs.declared.State.{State as StateOfConcept};
 ghost use Rattle.board.specs.declared.board.states.Change.TheVariants.{Raise as raising};
-ghost use Rattle.board.specs.Views.{content_of, moment_of};
-ghost use Rattle.board.specs.Frames.{Framed, Kept};
+ghost use Rattle.saturation.specs.Boards.{Wide};
+ghost use Rattle.board.specs.Views.{view, moment, SameList};
 ghost use Rattle.board.specs.Moves.{after, Shifted, Nudged};
 
 use super::OpenBoard;
@@ -28,11 +29,13 @@ pub(crate) enum Change {
 impl<'a, K: GradeKind> OpenBoard<'a, K> {
     /// Changes the state of `c` as the change asks, and says whether it asks for anything.
     pub(crate) fn shift(&mut self, c: u16, change: Change) -> bool
-        requires { c < self.old.counts.concepts }
-        ensures frame { Framed self.old self.new }
-        ensures shifted { Shifted content_of self.old.counts.concepts self.old.counts.roles c (after change ((content_of self.old).state c)) self.old self.new result }
+        requires { c < (view self.old).concepts }
+        ensures list { SameList self.old self.new }
+        ensures shifted { Shifted c (after change ((view self.old).state c)) (view self.old)
+            (view self.new) result }
+        ensures unmoved { OnFalse result (self.new ≡ self.old) }
     {
-        let next = match (self.state(c as usize), change) {
+        let next = match (self.state(c), change) {
             (State::Queued, Change::Take) => State::Held,
             (State::Idle, Change::Raise) => State::Queued,
             (State::Held, Change::Lower) => State::Idle,
@@ -45,11 +48,11 @@ impl<'a, K: GradeKind> OpenBoard<'a, K> {
 
     /// Queues `c` where it is idle, and puts its number into the pile.
     pub(crate) fn queue<P: Pile>(&mut self, pile: &mut P, c: u16, change: Change)
-        requires within { c < self.old.counts.concepts }
-        requires wide { self.old.counts.concepts ≤ (P.Pile.numbers pile.old).size }
+        requires within { c < (view self.old).concepts }
+        requires wide { Wide P.shape (moment self.old pile.old) }
         requires waking { (s : StateOfConcept) → after change s ≡ after raising s }
-        ensures kept { Kept P.Pile.numbers self.old pile.old self.new pile.new }
-        ensures nudged { Nudged self.old.counts.concepts self.old.counts.roles c (moment_of P.Pile.numbers self.old pile.old) (moment_of P.Pile.numbers self.new pile.new) }
+        ensures list { SameList self.old self.new }
+        ensures nudged { Nudged P.shape c (moment self.old pile.old) (moment self.new pile.new) }
     {
         if self.shift(c, change) {
             let _ = pile.put(c);

@@ -2,4 +2,4 @@ use Rattle.saturation.proofs.Finish.{fresh_run_finishes}
 use Rattle.saturation.proofs.fresh_runs_finish.Goals as goal
 
 pub returns : goal.returns
-returns c = fresh_run_finishes
+returns g c = fresh_run_finishes g.P.Pile.shape

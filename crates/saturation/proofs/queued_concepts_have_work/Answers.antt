@@ -2,4 +2,4 @@ use Rattle.saturation.proofs.Finish.{queued_waits}
 use Rattle.saturation.proofs.queued_concepts_have_work.Goals as goal
 
 pub returns : goal.returns
-returns c = queued_waits
+returns g c = queued_waits g.P.Pile.shape

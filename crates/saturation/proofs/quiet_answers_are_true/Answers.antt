@@ -2,4 +2,4 @@ use Rattle.saturation.proofs.Truths.{quiet_answers_true}
 use Rattle.saturation.proofs.quiet_answers_are_true.Goals as goal
 
 pub returns : goal.returns
-returns c = quiet_answers_true
+returns g c = quiet_answers_true g.P.Pile.shape

@@ -1,36 +1,52 @@
-use Rattle.std.proofs.Common.{◌<◌, subst, arith}
+use Rattle.std.proofs.Common.{arith}
 use Rattle.terms.specs.Views.{terms_of}
-use Rattle.sharing.specs.Sharing.{TookTurns}
+use Rattle.board.specs.Views.{moment}
+use Rattle.board.proofs.Lists.{list_same}
+use Rattle.board.proofs.Callers.{took_of, ready_then}
 use Rattle.sharing.proofs.Turning.{turns_then, no_turns, not_taken, stepped, whole_turn}
 use Rattle.sharing.proofs.+work.Goals as goal
 
 pub returns-then-workers-eq0 : goal.returns-then-workers-eq0
-returns-then-workers-eq0 g t c = no_turns (terms_of c.args.terms.now) g.K.GradeKind.kind g.P.Pile.numbers c.args.board.now c.args.pile.now c.requires
+returns-then-workers-eq0 g t c = record { list = list_same; turns = no_turns (terms_of c.args.terms.now) g.K.GradeKind.kind g.P.Pile.shape _ c.requires }
 
-pub give_back-requires : goal.give_back-requires
-give_back-requires g t c =
+pub returns-in_default-clause-turns : goal.returns-in_default-clause-turns
+returns-in_default-clause-turns g t c = not_taken (terms_of c.args.terms.now) g.K.GradeKind.kind g.P.Pile.shape _ _ _ c.requires c.in_default.ensures.taken
+
+pub give_back-requires-clause-ready : goal.give_back-requires-clause-ready
+give_back-requires-clause-ready g t c =
     let v = terms_of c.args.terms.now in
     let k = g.K.GradeKind.kind in
-    let numbers = g.P.Pile.numbers in
-    let taken = c.in-Ok.ensures.taken.1 in
-    let step : TookTurns v k numbers c.work.new.board c.work.new.pile c.step.new.self c.step.new.pile =
-    stepped v k numbers c.in-Ok.lease c.work.new.board c.work.new.pile c.step.new.self c.step.new.pile c.step.result c.work.ensures.onward.going c.step.ensures.kept c.step.ensures.sane c.step.ensures.stepped in
-    let turns = turns_then v k numbers c.work.ensures step in
-    let low = subst (λ n. c.in-Ok.lease.concept < n) c.requires.ready.counts.concepts taken.within in
-    let n = turns.onward.going.ready.counts.concepts in
-    record { going = turns.onward.going; held = (omega arith, turns.held c.in-Ok.lease.concept low taken.moved.here) }
+    let S = g.P.Pile.shape in
+    let d = moment c.work.new.board c.work.new.pile in
+    let e = moment c.step.new.self c.step.new.pile in
+    (stepped v k S c.in-Ok.lease d e c.step.result c.work.ensures.turns.onward.ready c.step.ensures.stepped).onward.ready
 
-pub returns-in_default : goal.returns-in_default
-returns-in_default g t c =
-    not_taken (terms_of c.args.terms.now) g.K.GradeKind.kind g.P.Pile.numbers c.args.board.now c.args.pile.now c.take.new.self c.take.new.pile c.in_default.field-0 c.requires
-    c.in_default.ensures.kept c.in_default.ensures.taken
-
-pub returns-in-Ok : goal.returns-in-Ok
-returns-in-Ok g t c =
+pub give_back-requires-clause-held : goal.give_back-requires-clause-held
+give_back-requires-clause-held g t c =
     let v = terms_of c.args.terms.now in
     let k = g.K.GradeKind.kind in
-    let numbers = g.P.Pile.numbers in
-    let step : TookTurns v k numbers c.work.new.board c.work.new.pile c.step.new.self c.step.new.pile =
-    stepped v k numbers c.in-Ok.lease c.work.new.board c.work.new.pile c.step.new.self c.step.new.pile c.step.result c.work.ensures.onward.going c.step.ensures.kept c.step.ensures.sane c.step.ensures.stepped in
-    whole_turn v k numbers c.in-Ok.lease.concept c.args.board.now c.args.pile.now c.take.new.self c.take.new.pile c.step.new.self c.step.new.pile c.give_back.new.board c.give_back.new.pile
-    c.requires c.in-Ok.ensures.kept c.in-Ok.ensures.sane c.in-Ok.ensures.taken.1 (turns_then v k numbers c.work.ensures step) c.give_back.ensures
+    let S = g.P.Pile.shape in
+    let d = moment c.work.new.board c.work.new.pile in
+    let e = moment c.step.new.self c.step.new.pile in
+    let T = took_of c.in-Ok.ensures.taken in
+    let x = c.in-Ok.lease.concept in
+    let m = c.work.ensures.turns in
+    let n = stepped v k S c.in-Ok.lease d e c.step.result m.onward.ready c.step.ensures.stepped in (
+      omega (arith, T.within, c.requires.goes.concepts, n.onward.ready.goes.concepts),
+      n.held x (omega (arith, T.within, c.requires.goes.concepts, m.onward.ready.goes.concepts)) (m.held x (omega (arith, T.within, T.moved.grades.sizes.concepts)) T.moved.here),
+    )
+
+pub returns-in-Ok-clause-turns : goal.returns-in-Ok-clause-turns
+returns-in-Ok-clause-turns g t c =
+    let v = terms_of c.args.terms.now in
+    let k = g.K.GradeKind.kind in
+    let S = g.P.Pile.shape in
+    let a = moment c.args.board.now c.args.pile.now in
+    let b = moment c.take.new.self c.take.new.pile in
+    let d = moment c.work.new.board c.work.new.pile in
+    let e = moment c.step.new.self c.step.new.pile in
+    let f = moment c.give_back.new.board c.give_back.new.pile in
+    let T = took_of c.in-Ok.ensures.taken in
+    let m = c.work.ensures.turns in
+    let n = stepped v k S c.in-Ok.lease d e c.step.result m.onward.ready c.step.ensures.stepped in
+    whole_turn v k S c.in-Ok.lease.concept a b e f c.requires T (turns_then v k S (ready_then c.requires T.moved.grades.sizes T.drawn.set.0) m n) c.give_back.ensures.back

@@ -4,7 +4,7 @@ ghost use Rattle.terms.specs.declared.entry.Entry.{Entry as Stated};
 ghost use Rattle.terms.specs.Contents.{nothing};
 ghost use Rattle.terms.specs.Counting.{Allowed};
 ghost use Rattle.terms.specs.Entries.{climbed};
-ghost use Rattle.terms.specs.Lent.{tally_of, Filled, Added};
+ghost use Rattle.terms.specs.Lent.{tally_of, WrittenOver, Added};
 ghost use Rattle.terms.specs.Views.{contents_of};
 
 use super::Terms;
@@ -34,7 +34,7 @@ impl<'a> Terms<'a> {
     /// Makes the vocabulary empty again. The lists stay as they are.
     pub fn clear(&mut self)
         ensures contents { contents_of self.new ≡ nothing }
-        ensures lists { Filled self.old self.new }
+        ensures lists { WrittenOver self.old self.new }
     {
         self.concept_count = 0;
         self.inclusion_count = 0;

@@ -5,7 +5,7 @@ use Rattle.terms.specs.Contents.{vocabulary_of}
 use Rattle.terms.specs.Counting.{none_of}
 use Rattle.terms.specs.Lent.{room_of, Added}
 use Rattle.sheet.specs.declared.fault.Fault.{Fault}
-use Rattle.sheet.specs.Sheet.{lines_in, count_lines, sheet_of, entries_of, Took}
+use Rattle.sheet.specs.Sheet.{lines_in, count_lines, sheet_of, entries_of, TookEntries}
 use Rattle.sheet.proofs.Exits.{broke, cases_of_err}
 use Rattle.sheet.proofs.Replacing.{replaced, sheet_cut, sheet_ok, sheet_err}
 use Rattle.sheet.proofs.SheetsRead.{length_lines, reads_as, refuses}
@@ -56,5 +56,5 @@ returns c =
     let n : length c.in_ok-lines.lines.now ≡ length text / 20 = ap length h.1 ∙ length_lines (length text / 20) text in
     let s : sheet_of m text ≡ Ok (length c.in_ok-lines.lines.now) = sheet_ok m text h.0 c.take_lines.new.into k ∙ ap {A = ℕ} {B = Result ℕ Fault} Ok (sym n) in
     let r = replaced t c.clear.new.self u (entries_of (lines_in text)) c.clear.ensures.contents c.clear.ensures.lists
-    (subst (λ ls. Took Added (entries_of ls) c.clear.new.self u) h.1 c.in_ok-take_lines-2.ensures.taken) in
+    (subst (λ ls. TookEntries Added (entries_of ls) c.clear.new.self u) h.1 c.in_ok-take_lines-2.ensures.taken) in
     record { result = sym s; terms = r; law = reads_as m text _ _ s (ap vocabulary_of r.0) }

@@ -1,10 +1,11 @@
-use Rattle.std.proofs.Common.{sym, subst}
+use Rattle.std.proofs.lemmas.Bool.{MatchBool-at_false}
 use Rattle.terms.specs.Views.{terms_of}
-use Rattle.saturation.specs.Boards.{Quiet}
+use Rattle.terms.proofs.Formed.{well_formed}
+use Rattle.board.specs.Views.{view}
+use Rattle.board.proofs.Finding.{quiet_all}
 use Rattle.board.proofs.board.Board.any_waits.Goals as goal
 
-pub returns-clause-waits : goal.returns-clause-waits
-returns-clause-waits g c = λ e Q. c.any_waits.ensures.waits e (subst (λ b. Quiet (terms_of c.args.terms.now) b) (sym c.reader.ensures.view) Q)
-
-pub returns-clause-quiet : goal.returns-clause-quiet
-returns-clause-quiet g c = λ e. subst (λ b. Quiet (terms_of c.args.terms.now) b) c.reader.ensures.view (c.any_waits.ensures.quiet e)
+pub returns-else-any_waits_where : goal.returns-else-any_waits_where
+returns-else-any_waits_where g c =
+    quiet_all (terms_of c.args.terms.now) (view c.args.self.now) c.any_waits_where-else-any_waits_where.result (well_formed c.args.terms.now) c.requires
+    (MatchBool-at_false _ _ c.if-any_waits_where.false c.any_waits_where.ensures) c.any_waits_where-else-any_waits_where.ensures

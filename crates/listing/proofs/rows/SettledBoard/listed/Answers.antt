@@ -3,7 +3,7 @@ use Rattle.std.specs.Result.{result_ok}
 use Rattle.terms.specs.Views.{terms_of}
 use Rattle.terms.proofs.Namings.{named_is}
 use Rattle.reasoning.specs.declared.Fact.TheVariants.{Under as under}
-use Rattle.board.specs.Views.{content_of}
+use Rattle.board.specs.Views.{view}
 use Rattle.listing.proofs.Asking.{answered, listed_is}
 use Rattle.listing.proofs.rows.SettledBoard.listed.Goals as goal
 
@@ -19,7 +19,7 @@ returns-in_err-code g c =
 pub returns : goal.returns
 returns g c =
     let v = terms_of c.args.self.now.terms.now in
-    let b = content_of c.args.self.now.board.now in
+    let b = view c.args.self.now.board.now in
     let na = sym c.if-not-is_named.ensures in
     let nd = sym c.if-not-is_named-2.ensures in
     let i = named_is v c.args.a na in

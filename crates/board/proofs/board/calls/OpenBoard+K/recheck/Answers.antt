@@ -1,24 +1,14 @@
-use Rattle.std.proofs.Common.{sym, refl, subst₂, arith}
-use Rattle.terms.specs.Views.{terms_of}
-use Rattle.saturation.specs.Effects.{SameGrades}
-use Rattle.board.specs.Views.{content_of}
-use Rattle.board.specs.Refusals.{RecheckRejected}
-use Rattle.board.proofs.AsStated.{same_sane}
+use Rattle.std.proofs.Common.{refl, arith}
+use Rattle.board.specs.Views.{moment}
+use Rattle.board.specs.Calls.{RecheckedBy}
 use Rattle.board.proofs.board.calls.OpenBoard+K.recheck.Goals as goal
 
 pub returns-in-Err-clause-rechecked : goal.returns-in-Err-clause-rechecked
-returns-in-Err-clause-rechecked g c = (RecheckRejected.unready c.in-Err.ensures, refl, refl, refl)
+returns-in-Err-clause-rechecked g c = let a = moment c.args.self.now c.args.pile.now in RecheckedBy.unready c.in-Err.ensures refl (refl {a = a})
 
 pub returns-then-from-self-clause-rechecked : goal.returns-then-from-self-clause-rechecked
 returns-then-from-self-clause-rechecked g c =
-    let R = c.in_default.ensures in
-    (RecheckRejected.unfit_lease R.counts R.wide (omega (arith, c.from.ensures)), refl, refl, refl)
+    let a = moment c.args.self.now c.args.pile.now in RecheckedBy.unfit_lease c.in_default.ensures refl refl (omega (arith, c.from.ensures)) (refl {a = a})
 
-pub returns : goal.returns
-returns g c =
-    let v = terms_of c.args.terms.now in
-    let a = c.args.self.now in
-    let b = c.review.new.self in
-    let R = c.in_default.ensures in
-    let G : SameGrades a.counts.concepts a.counts.roles (content_of a) (content_of b) = subst₂ (λ n m. SameGrades n m (content_of a) (content_of b)) (sym R.counts.concepts) (sym R.counts.roles) c.review.ensures.rechecked.grades in
-    record { kept = c.review.ensures.kept; sane = same_sane a.counts.concepts a.counts.roles g.K.GradeKind.kind (content_of a) (content_of b) G; rechecked = (R, c.review.ensures.rechecked) }
+pub returns-clause-rechecked : goal.returns-clause-rechecked
+returns-clause-rechecked g c = RecheckedBy.rechecked c.in_default.ensures c.review.ensures.rechecked

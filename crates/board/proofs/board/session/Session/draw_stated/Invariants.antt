@@ -3,4 +3,4 @@ use Rattle.board.specs.OwnDraws.{AnyBelow, ByStated}
 use Rattle.board.proofs.board.session.Session.draw_stated.Given as goal
 
 abbrev pub invariant-loop-inclusion : goal.invariant-loop-inclusion
-invariant-loop-inclusion g l = SessionDrawn g.K.GradeKind.kind g.P.Pile.numbers (λ v. AnyBelow l.inclusion-index (ByStated v g.K.GradeKind.kind l.known)) l.initial.self l.self
+invariant-loop-inclusion g l = SessionDrawn (AnyBelow (λ _. l.inclusion-index) (ByStated l.known)) l.initial.self l.self
