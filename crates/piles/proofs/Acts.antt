@@ -60,7 +60,7 @@ puts_behind (x ∷ xs) ys = let h = puts_behind xs ys in elim (cases_Bool (has x
 pub marks_became : {es : List Act} {p q : Marks} → Became marks_shape es p q → RestKept p.list q.list
 marks_became nothing = record { same = refl; kept = refl }
 marks_became (and_then {e = put x} b d) = let r = marks_became b in record { same = d.more.same ∙ r.same; kept = d.more.kept ∙ r.kept }
-marks_became (and_then {e = drew x} b d) = let r = marks_became b in record { same = d.more.1.same ∙ r.same; kept = d.more.1.kept ∙ r.kept }
+marks_became (and_then {e = drew x} b d) = let r = marks_became b in record { same = d.more.same ∙ r.same; kept = d.more.kept ∙ r.kept }
 
 -- what a draw leaves of the set
 module _ {Y : Type 0} (S : Shape Y) where

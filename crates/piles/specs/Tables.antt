@@ -1,5 +1,5 @@
 -- A table of marks.
-use Rattle.std.specs.Prelude.{◌≡◌, ℕ, ◌<◌, false, not, Option, ◌==◌, position}
+use Rattle.std.specs.Prelude.{ℕ, not, Option, ◌==◌, position}
 use Rattle.piles.specs.declared.marks.Marks.{Marks}
 use Rattle.piles.specs.Sets.{Numbers}
 use Rattle.piles.specs.Lists.{own, listed, RestKept}
@@ -13,15 +13,11 @@ in_marks m = listed m.list.now
 abbrev pub smallest_in : Marks → Option ℕ
 smallest_in m = position (λ entry. not (entry == 0)) (own m.list.now)
 
--- no number smaller than x is held
-abbrev pub Smallest : Numbers → ℕ → Type 0
-Smallest s x = (y : ℕ) → y < x → s.holds y ≡ false
-
--- what a table of marks shows: a draw takes the smallest, and the list's rest stays
+-- what a table of marks shows: its front is the smallest, and the list's rest stays
 abbrev pub marks_shape : Shape Marks
 marks_shape = record {
   numbers = in_marks;
   front = smallest_in;
   put = λ p x q. RestKept p.list q.list;
-  drew = λ p x q. Smallest (in_marks p) x × RestKept p.list q.list;
+  drew = λ p x q. RestKept p.list q.list;
 }

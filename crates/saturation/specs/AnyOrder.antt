@@ -63,7 +63,7 @@ AnyOrder {Y} {Z} S T = (k : Kind) → Lawful k → (v : Vocabulary) → WellForm
     ((es : List Event) (m : Moment Y) → History v k S es m → Promise v k S es m)
     × ((es fs : List Event) (m : Moment Y) (n : Moment Z) → History v k S es m → History v k T fs n → Quiet v m.board → Quiet v n.board → (f : Fact) → Within v f → m.board.found f ≡ n.board.found f)
 
--- a history over a pile is one over what is seen of it
+-- whatever the pile, a history over it is one of calls that led to its board
 abbrev pub HistoriesSeen : {Y : Type 0} → Shape Y → Type 0
 HistoriesSeen {Y} S = (v : Vocabulary) (k : Kind) (es : List Event) (m : Moment Y) → History v k S es m → Led v k m.board
 

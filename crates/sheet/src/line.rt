@@ -33,7 +33,8 @@ pub fn line(columns: &[u8; 20]) -> Result<Entry, LineFault>
 // What the parts of a line state.
 fn stated(parts: Line) -> Result<Entry, LineFault>
     requires { length parts.fields.now ≡ 18 }
-    ensures { result ≡ kind_line (kind_of parts.entry.letter) parts.entry.fields.now parts.entry.feed }
+    ensures { result ≡ kind_line (kind_of parts.entry.letter) parts.entry.fields.now
+        parts.entry.feed }
 {
     let kind = LineKind::of(char::from(parts.letter)).ok_or(LineFault {
         layer: Layer::Line,

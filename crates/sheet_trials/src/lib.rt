@@ -20,8 +20,12 @@ pub fn load(
     inclusions: &mut [Inclusion],
     text: &[u8],
 ) -> Result<usize, Fault>
-    ensures result { result ≡ sheet_of (room_for (length concepts.old) (length inclusions.old)) text.now }
-    ensures lists { MatchResult result (λ _. (concepts.new ≡ onto (contents_in text.now).concepts concepts.old) × (inclusions.new ≡ onto (contents_in text.now).inclusions inclusions.old)) (λ _. (concepts.new ≡ concepts.old) × (inclusions.new ≡ inclusions.old)) }
+    ensures result { result ≡ sheet_of (room_for (length concepts.old) (length inclusions.old))
+        text.now }
+    ensures lists { MatchResult result
+        (λ _. (concepts.new ≡ onto (contents_in text.now).concepts concepts.old)
+        × (inclusions.new ≡ onto (contents_in text.now).inclusions inclusions.old))
+        (λ _. (concepts.new ≡ concepts.old) × (inclusions.new ≡ inclusions.old)) }
 {
     let mut terms = Terms::empty(concepts, inclusions);
     read(text, &mut terms)

@@ -20,7 +20,10 @@ pub trait Collector {
     /// Takes an entry, or says what is to blame, and then nothing is altered.
     fn add(&mut self, entry: Entry) -> Result<(), Blame>
         ensures result { result ≡ verdict_of (counts self.old) entry }
-        ensures state { MatchResult result (λ _. grows entry self.old self.new × (counts self.new ≡ counted entry (counts self.old))) (λ _. self.new ≡ self.old) };
+        ensures state { MatchResult result
+            (λ _. grows entry self.old self.new
+            × (counts self.new ≡ counted entry (counts self.old)))
+            (λ _. self.new ≡ self.old) };
 }
 
 impl Collector for Tally {

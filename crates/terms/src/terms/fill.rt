@@ -17,8 +17,10 @@ impl<'a> Terms<'a> {
     /// The empty vocabulary over two lists, whose entries stay as they are.
     pub fn empty(concepts: &'a mut [Concept], inclusions: &'a mut [Inclusion]) -> Terms<'a>
         ensures contents { contents_of result ≡ nothing }
-        ensures concepts { (result.concepts.now ≡ concepts.old) × (result.concepts.ghost_name ≡ concepts.entry.ghost_name) }
-        ensures inclusions { (result.inclusions.now ≡ inclusions.old) × (result.inclusions.ghost_name ≡ inclusions.entry.ghost_name) }
+        ensures concepts { (result.concepts.now ≡ concepts.old)
+            × (result.concepts.ghost_name ≡ concepts.entry.ghost_name) }
+        ensures inclusions { (result.inclusions.now ≡ inclusions.old)
+            × (result.inclusions.ghost_name ≡ inclusions.entry.ghost_name) }
     {
         Terms {
             concepts,

@@ -1,4 +1,4 @@
-use Rattle.std.proofs.Common.{◌≡◌, ℕ, ◌<◌, false, true, refl, sym, subst, arith, length-set}
+use Rattle.std.proofs.Common.{◌≡◌, ◌<◌, true, refl, sym, subst, arith, length-set}
 use Rattle.piles.specs.Shapes.{DrewBy}
 use Rattle.piles.specs.Lists.{room, held}
 use Rattle.piles.specs.Tables.{marks_shape}
@@ -7,7 +7,7 @@ use Rattle.piles.proofs.marks.MarksPile.draw.Goals as goal
 use Rattle.piles.proofs.marks.MarksPile.draw.Goals.{In_ok-first}
 
 -- what is known of the number drawn
-first : (c : In_ok-first) → (c.in_ok-first.first < room c.args.self.now.list.now) × (held c.args.self.now.list.now c.in_ok-first.first ≡ true) × ((y : ℕ) → y < c.in_ok-first.first → held c.args.self.now.list.now y ≡ false)
+first : (c : In_ok-first) → (c.in_ok-first.first < room c.args.self.now.list.now) × (held c.args.self.now.list.now c.in_ok-first.first ≡ true)
 first c = first_some c.args.self.now.list.now c.in_ok-first.first (sym c.in_ok-first.ensures)
 
 pub returns-in_err-first : goal.returns-in_err-first
@@ -30,5 +30,5 @@ returns c =
     record {
       front = sym c.in_ok-first.ensures;
       set = (simp length-set refl, (first c).1, held_without l c.in_ok-first.first (first c).0);
-      more = ((first c).2, record { same = refl; kept = rest_written l c.in_ok-first.first 0 (omega (arith, (first c).0)) });
+      more = record { same = refl; kept = rest_written l c.in_ok-first.first 0 (omega (arith, (first c).0)) };
     }
