@@ -9,7 +9,7 @@ use Rattle.piles.specs.declared.ring.Ring.{Ring}
 use Rattle.piles.specs.declared.marks.Marks.{Marks}
 use Rattle.piles.specs.Lists.{RestKept}
 use Rattle.piles.specs.Tables.{marks_shape}
-use Rattle.piles.specs.Shapes.{Shape, seen, any_pile, PutIn, DrawnOut, PutBy, Act, put, drew, Does, Became, Acted, nothing, and_then, puts}
+use Rattle.piles.specs.Shapes.{Shape, PutIn, DrawnOut, PutBy, Act, put, drew, Does, Became, Acted, nothing, and_then, puts}
 use Rattle.piles.specs.Chains.{has}
 use Rattle.piles.specs.Orders.{order, ring_shape, queued, behind, order_after}
 
@@ -94,16 +94,3 @@ module _ {Y : Type 0} (S : Shape Y) where
     | inl e ↦ with_same (S.numbers m).holds y x e
     | inr n ↦ with_other (S.numbers m).holds y x n ∙ puts_in ys b x (⊎_elim (λ e. absurd (n e)) (λ t. t) (Memᴰ.cases_cons i))
   ]
-
--- what became of a pile became of what is seen of it
-module _ {Y : Type 0} (S : Shape Y) where
-  pub drawn_seen : {x : ℕ} {p q : Y} → DrawnOut S x p q → DrawnOut any_pile x (seen S p) (seen S q)
-  drawn_seen d = record { front = d.front; set = d.set; more = tt }
-
-  pub put_seen : {x : ℕ} {p q : Y} → PutIn S x p q → PutIn any_pile x (seen S p) (seen S q)
-  put_seen d = record { set = d.set; more = tt }
-
-  pub became_seen : {es : List Act} {p q : Y} → Became S es p q → Became any_pile es (seen S p) (seen S q)
-  became_seen nothing = nothing
-  became_seen (and_then {e = put x} b d) = and_then (became_seen b) (put_seen d)
-  became_seen (and_then {e = drew x} b d) = and_then (became_seen b) (drawn_seen d)

@@ -5,5 +5,8 @@ pub mod Members
 pub mod Links
 pub mod Rings
 pub mod Turns
+pub mod Windows
 pub mod Acts
 pub mod Eaches
+pub mod Following
+pub mod Logs

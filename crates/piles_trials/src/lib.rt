@@ -1,8 +1,11 @@
-//! Piles at work: both piles on small examples, and what a caller then knows of its list.
+//! Piles at work: both piles on small examples, what a caller then knows of its list, and logs over them.
 #![tactic(auto)]
 
 ghost use Rattle.std.specs.Prelude.{◌≡◌};
 ghost use Rattle.piles.specs.Lists.{rest};
+
+#[cfg(test)]
+mod logs;
 
 #[cfg(test)]
 mod tests {

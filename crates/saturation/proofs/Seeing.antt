@@ -1,24 +1,26 @@
--- A history over any pile is one over what is seen of it.
-use Rattle.std.proofs.Common.{ℕ, List, ap}
+-- What leads on over a pile leads on over one that follows it; and a history over any pile is one over what is seen of it.
+use Rattle.std.proofs.Common.{ℕ, List, ap, ◌∙◌}
 use Rattle.grades.specs.Kinds.{Kind}
-use Rattle.piles.specs.Shapes.{Shape, PutEach, Seen, seen, any_pile}
-use Rattle.piles.proofs.Acts.{drawn_seen, became_seen}
+use Rattle.piles.specs.Shapes.{Shape, PutEach, seen, any_pile}
+use Rattle.piles.proofs.Following.{Follows, seen_follows, drawn_along, became_along}
 use Rattle.terms.specs.Vocabularies.{Vocabulary}
+use Rattle.saturation.specs.declared.Outcome.{Outcome}
 use Rattle.saturation.specs.Boards.{Moment}
-use Rattle.saturation.specs.Effects.{Made}
+use Rattle.saturation.specs.Effects.{Made, Took, Returned, Rechecked}
 use Rattle.saturation.specs.Histories.{Event, took, returned, worked, lowered, rechecked, other, Effect, Leads, nothing, and_then, History, Led}
+use Rattle.saturation.specs.Runs.{Exhausts, Runs}
 
--- a moment, by what is seen of its pile
-abbrev pub seen_at : {Y : Type 0} → Shape Y → Moment Y → Moment Seen
-seen_at S m = record { board = m.board; pile = seen S m.pile }
+module _ {Y Z : Type 0} {S : Shape Y} {T : Shape Z} {f : Y → Z} (F : Follows S T f) where
+  -- a moment, with the pile that follows
+  abbrev pub along : Moment Y → Moment Z
+  along m = record { board = m.board; pile = f m.pile }
 
-module _ {Y : Type 0} (S : Shape Y) where
-  puts_seen : {P : ℕ → Type 0} {p q : Y} → PutEach S P p q → PutEach any_pile P (seen S p) (seen S q)
-  puts_seen t = record { numbers = t.numbers; distinct = t.distinct; each = t.each; every = t.every; became = became_seen S t.became }
+  puts_along : {P : ℕ → Type 0} {p q : Y} → PutEach S P p q → PutEach T P (f p) (f q)
+  puts_along t = record { numbers = t.numbers; distinct = t.distinct; each = t.each; every = t.every; became = became_along F t.became }
 
   module _ (v : Vocabulary) (k : Kind) where
-    made_seen : {p : Y} {m : Moment Y} → Made v k S p m → Made v k any_pile (seen S p) (seen_at S m)
-    made_seen t = record {
+    made_along : {p : Y} {m : Moment Y} → Made v k S p m → Made v k T (f p) (along m)
+    made_along {p} t = record {
       goes = t.goes;
       started = t.started;
       unfound = t.unfound;
@@ -26,24 +28,49 @@ module _ {Y : Type 0} (S : Shape Y) where
       queued = t.queued;
       idle = t.idle;
       no_steps = t.no_steps;
-      empty = t.empty;
-      puts = puts_seen t.puts;
+      empty = rw (F.numbers p) t.empty;
+      puts = puts_along t.puts;
     }
 
-    effect_seen : (e : Event) (a b : Moment Y) → Effect v k S e a b → Effect v k any_pile e (seen_at S a) (seen_at S b)
-    effect_seen (took c) a b t = record { drawn = drawn_seen S t.drawn; within = t.within; queued = t.queued; moved = t.moved }
-    effect_seen (returned x) a b t = record { unqueued = t.unqueued; turned = became_seen S t.turned; same = t.same }
-    effect_seen (worked c j) a b t = record { deed = t.deed; codes = t.codes; wakes = t.wakes; leaves = t.leaves; puts = puts_seen t.puts }
-    effect_seen (lowered c) a b t = (t.0, ap (seen S) t.1)
-    effect_seen (rechecked c) a b t = record { within = t.within; wakes = t.wakes; leaves = t.leaves; others = t.others; grades = t.grades; puts = puts_seen t.puts }
-    effect_seen other a b t = record { board = t.board; pile = t.pile }
+    took_along : (c : ℕ) (a b : Moment Y) → Took S c a b → Took T c (along a) (along b)
+    took_along c a b t = record { drawn = drawn_along F t.drawn; within = t.within; queued = t.queued; moved = t.moved }
 
-    leads_seen : {es : List Event} {a b : Moment Y} → Leads v k S es a b → Leads v k any_pile es (seen_at S a) (seen_at S b)
-    leads_seen nothing = nothing
-    leads_seen (and_then {e = e} {b = b} {c = c} l t) = and_then (leads_seen l) (effect_seen e b c t)
+    returned_along : (x : ℕ) (a b : Moment Y) → Returned S x a b → Returned T x (along a) (along b)
+    returned_along x a b t = record { unqueued = t.unqueued; turned = became_along F t.turned; same = t.same }
 
-pub history_seen : {Y : Type 0} {v : Vocabulary} {k : Kind} {S : Shape Y} {es : List Event} {m : Moment Y} → History v k S es m → History v k any_pile es (seen_at S m)
-history_seen {v = v} {k} {S} h = record { before = seen S h.before; begin = seen_at S h.begin; made = made_seen S v k h.made; led = leads_seen S v k h.led }
+    rechecked_along : (c : ℕ) (a b : Moment Y) → Rechecked v S c a b → Rechecked v T c (along a) (along b)
+    rechecked_along c a b t = record { within = t.within; wakes = t.wakes; leaves = t.leaves; others = t.others; grades = t.grades; puts = puts_along t.puts }
+
+    effect_along : (e : Event) (a b : Moment Y) → Effect v k S e a b → Effect v k T e (along a) (along b)
+    effect_along (took c) a b t = took_along c a b t
+    effect_along (returned x) a b t = returned_along x a b t
+    effect_along (worked c j) a b t = record { deed = t.deed; codes = t.codes; wakes = t.wakes; leaves = t.leaves; puts = puts_along t.puts }
+    effect_along (lowered c) a b t = (t.0, ap f t.1)
+    effect_along (rechecked c) a b t = rechecked_along c a b t
+    effect_along other a b t = record { board = t.board; pile = λ x. rw (F.numbers b.pile) (rw (F.numbers a.pile) (t.pile x)) }
+
+    leads_along : {es : List Event} {a b : Moment Y} → Leads v k S es a b → Leads v k T es (along a) (along b)
+    leads_along nothing = nothing
+    leads_along (and_then {e = e} {b = b} {c = c} l t) = and_then (leads_along l) (effect_along e b c t)
+
+    exhausts_along : {c budget steps : ℕ} {es : List Event} {a b : Moment Y} → Exhausts v k S c budget steps es a b → Exhausts v k T c budget steps es (along a) (along b)
+    exhausts_along (Exhausts.quiet q) = Exhausts.quiet q
+    exhausts_along Exhausts.spent = Exhausts.spent
+    exhausts_along {c = c} {a = a} (Exhausts.step {j = j} {b = b} w x) = Exhausts.step (effect_along (worked c j) a b w) (exhausts_along x)
+
+    pub runs_along : {budget steps : ℕ} {o : Outcome} {es : List Event} {a b : Moment Y} → Runs v k S budget o steps es a b → Runs v k T budget o steps es (along a) (along b)
+    runs_along (Runs.finished q) = Runs.finished q
+    runs_along (Runs.spent q) = Runs.spent q
+    runs_along {a = a} {b = b} (Runs.left {x = x} q u) = Runs.left q (returned_along x a b u)
+    runs_along {a = a} (Runs.dry q n m) = Runs.dry q (F.front a.pile ∙ n) (rw (F.numbers a.pile) m)
+    runs_along {a = a} (Runs.turn {c = c} {b = b} {e = e} {f = g} q l t x w p r y) =
+        Runs.turn q l (took_along c a b t) (exhausts_along x) w (ap f p) (rechecked_along c e g r) (runs_along y)
+
+pub history_seen : {Y : Type 0} {v : Vocabulary} {k : Kind} {S : Shape Y} {es : List Event} {m : Moment Y} → History v k S es m →
+    History v k any_pile es (along (seen_follows S) m)
+history_seen {v = v} {k} {S} h =
+    let F = seen_follows S in
+    record { before = seen S h.before; begin = along F h.begin; made = made_along F v k h.made; led = leads_along F v k h.led }
 
 -- so some calls led to its board
 pub led : {Y : Type 0} {v : Vocabulary} {k : Kind} {S : Shape Y} {es : List Event} {m : Moment Y} → History v k S es m → Led v k m.board

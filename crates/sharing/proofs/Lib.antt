@@ -2,3 +2,4 @@ pub mod Turning
 pub mod Ending
 pub mod Asking
 pub mod Ordering
+pub mod Noting

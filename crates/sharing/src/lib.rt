@@ -1,6 +1,6 @@
 //! Workers on one board, any number of them: callers that show how the contracts of the board's calls lead, entry by entry, to a history,
 //! and the theorem over histories to the meaning of the answer, which does not depend on how many workers there were; and how a call's contract
-//! over any pile leads to what it makes of a ring's order or of the list under a table of marks.
+//! over any pile leads to what it makes of a ring's order, of the list under a table of marks, or of a log's record.
 #![tactic(auto)]
 
 ghost use Rattle.std.specs.Prelude.{◌≡◌, OnErr};
@@ -13,6 +13,9 @@ ghost use Rattle.board.specs.Rejections.{IsHeld, Ready};
 ghost use Rattle.board.specs.Calls.{Taken, Stepped, RanBy};
 ghost use Rattle.sharing.specs.Sharing.{GaveBack, TookTurns, SharedBy, TookFirst, ComesBehind};
 ghost use Rattle.sharing.specs.Asking.{AskedOr};
+
+/// Boards whose pile is a log.
+pub mod logs;
 
 use board::board::running::Ran;
 use board::board::{ClosedBoard, OpenBoard};

@@ -11,11 +11,11 @@ use std::test::Fail;
 use terms::terms::Terms;
 
 /// A transitive role with a role below it, and a chain of two restrictions.
-const SHEET: &[u8] =
+pub const SHEET: &[u8] =
     b"R\nR\nI     0     1\nP     1\nA\nA\nA\nA\nE     0     1\nE     1     2\nS     0     4     0\nS     1     5     2\nS     5     3     1\n";
 
 /// The words of its board, which has six concepts and two roles.
-const WORDS: usize = 258;
+pub const WORDS: usize = 258;
 
 /// What was answered to "0 under 3", what the board answers to that again, how many steps it took, and how many numbers the pile then holds.
 #[derive(Clone, Copy, PartialEq, Debug)]
