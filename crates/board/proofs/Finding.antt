@@ -1,25 +1,50 @@
 -- From the parts of the search to the first job that waits at a concept.
-use Rattle.std.proofs.Common.{◌≡◌, ℕ, ◌+◌, ◌<◌, ◌≤◌, Bool, true, false, Some, None, Option, MatchOption, MatchBool, sym, subst, ⊎_elim, arith}
+use Rattle.std.proofs.Common.{◌≡◌, ℕ, ◌+◌, ◌-◌, ◌<◌, ◌≤◌, Bool, true, false, List, take, drop, get_or, Some, None, Option, MatchOption, MatchBool, refl, sym, ap, ◌∙◌, subst, ⊎_elim, arith}
+use Rattle.std.proofs.lemmas.List.{get_or-drop, get_or-take}
 use Rattle.std.specs.Option.{option_or, option_map, is_some}
 use Rattle.std.proofs.lemmas.Bool.{cases_eq, cases_Bool}
 use Rattle.terms.specs.declared.records.Concept.TheVariants.{Restriction}
 use Rattle.terms.specs.Vocabularies.{Vocabulary, WellFormed, Is}
 use Rattle.reasoning.specs.declared.Job.{Job}
 use Rattle.reasoning.specs.declared.Job.TheVariants.{Own as own, Link as link, Imply as imply}
-use Rattle.reasoning.specs.Derivations.{JobAt, at_left, at_filler, at_premise}
+use Rattle.reasoning.specs.Derivations.{JobAt, at_left, at_filler, at_premise, fact_of}
 use Rattle.reasoning.proofs.Jobs.{at_concept}
 use Rattle.saturation.specs.Boards.{Board, GoesWith, Rests, Waits, First, FirstOrNone, Quiet, QuietAt, Before, by_sort, by_role, by_left, by_right}
 use Rattle.board.proofs.Options.{some_of, none_of}
 use Rattle.board.specs.declared.board.finding.LinkJob.{LinkJob}
 use Rattle.board.specs.declared.board.finding.Series.{Series}
 use Rattle.board.specs.declared.board.finding.Series.TheVariants.{Owns, Links, Implications}
-use Rattle.board.specs.Words.{is_idle}
+use Rattle.board.specs.Words.{is_idle, spot, mark, view_of}
 use Rattle.board.specs.Searches.{job_of, NoneBelow, FirstBelow, NoLinks, FirstLink, BestLink, NoImplications, FirstImplication, QuietWhere}
 
 -- the first number below n at which a series's job waits
 pub first_of : (b : Board) (l : Series) (n : ℕ) (r : Option ℕ) → MatchOption r ((k : ℕ) → 0 ≤ k → k < n → Rests b (job_of l k)) (λ i. (0 ≤ i) × (i < n) × Waits b (job_of l i) × ((k : ℕ) → 0 ≤ k → k < i → Rests b (job_of l k))) → MatchOption r (NoneBelow b l n) (FirstBelow b l n)
 first_of b l n None h = λ i d. h i (omega arith) d
 first_of b l n (Some i) h = record { below = h.1; waits = h.2; none_before = λ k d. h.3 k (omega arith) d }
+
+-- two stretches of a list that are the same agree entry by entry
+stretch : (w : List ℕ) (a b k : ℕ) → take k (drop a w) ≡ take k (drop b w) → (i : ℕ) → i < k → get_or w (a + i) 0 ≡ get_or w (b + i) 0
+stretch w a b k e i l =
+    sym (get_or-drop a w i 0) ∙ sym (get_or-take k (drop a w) i 0 l) ∙ ap (λ xs. get_or xs i 0) e ∙ get_or-take k (drop b w) i 0 l ∙ get_or-drop b w i 0
+
+-- so do two rows, from their first words to their last
+same_at : (w : List ℕ) (a z b y k i p q : ℕ) → take (z + 1 - a) (drop a w) ≡ take (y + 1 - b) (drop b w) → z + 1 ≡ a + k → y + 1 ≡ b + k → i < k → p ≡ a + i → q ≡ b + i → get_or w p 0 ≡ get_or w q 0
+same_at w a z b y k i p q e ez ey l ep eq =
+    let kz : z + 1 - a ≡ k = omega arith in
+    let ky : y + 1 - b ≡ k = omega arith in
+    ap (λ x. get_or w x 0) ep
+    ∙ stretch w a b k (ap (λ n. take n (drop a w)) (sym kz) ∙ e ∙ ap (λ n. take n (drop b w)) ky) i l
+    ∙ ap (λ x. get_or w x 0) (sym eq)
+
+-- where a row of done grades is that of the found ones, no job of the series waits
+pub row_quiet : (w : List ℕ) (n m : ℕ) (l : Series) (k a z b y : ℕ) → ((x : ℕ) → l ≡ Links x → ⊥) → 0 < k →
+    a ≡ mark n m (job_of l 0) → z ≡ mark n m (job_of l (k - 1)) → b ≡ spot n (fact_of (job_of l 0)) → y ≡ spot n (fact_of (job_of l (k - 1))) →
+    take (z + 1 - a) (drop a w) ≡ take (y + 1 - b) (drop b w) → NoneBelow (view_of w n m 0) l k
+row_quiet w n m (Owns c) k a z b y far some ea ez eb ey e i h =
+    same_at w a z b y k i (mark n m (own c i)) (spot n (fact_of (own c i))) e (omega arith) (omega arith) h (omega arith) (omega arith)
+row_quiet w n m (Links x) k a z b y far some ea ez eb ey e i h = absurd (far x refl)
+row_quiet w n m (Implications s c) k a z b y far some ea ez eb ey e i h =
+    same_at w a z b y k i (mark n m (imply s c i)) (spot n (fact_of (imply s c i))) e (omega arith) (omega arith) h (omega arith) (omega arith)
 
 -- how far left a better link job has to be, where there are n concepts
 abbrev pub leftmost : ℕ → Option LinkJob → ℕ

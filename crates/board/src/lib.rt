@@ -6,3 +6,8 @@ pub mod checking;
 mod counts;
 mod lookup;
 pub mod tokens;
+
+/// The closed board, also by a path of its own.
+pub mod closed {
+    pub use crate::board::ClosedBoard;
+}

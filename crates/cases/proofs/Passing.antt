@@ -27,10 +27,10 @@ use Rattle.board.specs.Layout.{words_needed}
 use Rattle.board.specs.Questions.{Settled, Under, answer, unsettled, no_concept, other_terms, job_waits}
 use Rattle.sheet.specs.declared.fault.Fault.{Fault}
 use Rattle.listing.specs.declared.page.Row.{Row}
-use Rattle.listing.specs.Listings.{Listed, Precedes, Listing}
+use Rattle.listing.specs.Listings.{Listed, Precedes}
 use Rattle.cases.specs.Rounds.{has, closed, rounds}
 use Rattle.cases.specs.Sheets.{reading, stated}
-use Rattle.cases.specs.Expectations.{KindName, Plain, Releases, Views, kind_of, Expectation, grade, listing, steps, mates, parents, words, unknown, Met}
+use Rattle.cases.specs.Expectations.{KindName, Plain, Releases, Views, kind_of, Expectation, grade, listing, steps, mates, parents, words, unknown, WholeListing, Met}
 use Rattle.cases.specs.Cases.{Case, Holds, cases, WorkedCasesHold}
 use Rattle.cases.proofs.Rounds.{rounds_derive, rounds_tell}
 use Rattle.cases.proofs.Tests.{all_at, agree, agree_true}
@@ -150,11 +150,19 @@ module _ (v : Vocabulary) (wf : WellFormed v) (k : Kind) (lawful : Lawful k) (fa
     | inr f ↦ Memᴰ.tail (row_there rows (λ x m. all x (Memᴰ.tail m)) r d (λ u. h (and_from _ _ (not_from_false _ f) u)))
   ]
 
-  listing_true : (rows : List Row) → listing_test v k facts rows ≡ true → Listing v k rows
+  unlisted_of : (rows : List Row) (a d : ℕ) → ((r : Row) → Memᴰ r rows → (r.sub ≡ a) × (r.sup ≡ d) → ⊥) → unlisted rows a d ≡ true
+  unlisted_of [] a d h = refl
+  unlisted_of (r ∷ rows) a d h =
+      and_from _ _ ((Decides-not _ (Decides-and _ _ (Decides-eqb r.sub a) (Decides-eqb r.sup d))).1 (h r (Memᴰ.head refl))) (unlisted_of rows a d (λ s m. h s (Memᴰ.tail m)))
+
+  listing_true : (rows : List Row) → listing_test v k facts rows ≡ true → WholeListing v k rows
   listing_true rows h = record {
-    ascending = ascending_at precedes_test Precedes precedes rows t.0;
-    each = each;
-    every = λ r d. row_there rows each r d (λ u. d.some (one_grade v k lawful d.grade (other r.sub r.sup d.sub_named d.sup_named d.different u)));
+    listing = record {
+      ascending = ascending_at precedes_test Precedes precedes rows t.0;
+      each = each;
+      every = λ r d. row_there rows each r d (λ u. d.some (one_grade v k lawful d.grade (other r.sub r.sup d.sub_named d.sup_named d.different u)));
+    };
+    others = λ a d i j ne no_row. other a d i j ne (unlisted_of rows a d no_row);
   }
     where
       n : ℕ

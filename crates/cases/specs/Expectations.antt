@@ -1,5 +1,6 @@
 -- What a worked case expects of its vocabulary, and what that says of all finite models.
-use Rattle.std.specs.Prelude.{◌≡◌, ℕ, ◌<◌, List, length, Err, Result}
+use Rattle.std.specs.Prelude.{◌≡◌, ℕ, ◌<◌, List, length, Err, Result, ◌≢◌}
+use mathlib.Core.List.{Memᴰ}
 use Rattle.rejections.specs.declared.Rejection.{Rejection}
 use Rattle.rejections.specs.declared.Rejection.TheVariants.{NoSuchConcept}
 use Rattle.grades.specs.Kinds.{Kind, Lawful}
@@ -38,10 +39,15 @@ pub data Expectation : Type 0 where
   words : ℕ → Expectation
   unknown : ℕ → Expectation
 
+-- the listing of a vocabulary; and any two different named concepts that have no row there have the grade "none"
+pub record WholeListing (v : Vocabulary) (k : Kind) (rows : List Row) : Type 0 where
+  pub listing : Listing v k rows
+  pub others : (a d : ℕ) → Named v a → Named v d → (a ≢ d) → ((r : Row) → Memᴰ r rows → (r.sub ≡ a) × (r.sup ≡ d) → ⊥) → Grade v k a d k.none
+
 -- what an expectation says of a vocabulary
 abbrev pub Met : Vocabulary → Kind → Expectation → Type 0
 Met v k (grade a d code) = Named v a × (d < length v.concepts) × Grade v k a d code
-Met v k (listing rows) = Listing v k rows
+Met v k (listing rows) = WholeListing v k rows
 Met v k (steps n) = AllDue v k n
 Met v k (mates a p xs) = Named v a × (p < k.points) × ListOf (Mate v (TrulyUnder v k p) a) xs
 Met v k (parents a p xs) = Named v a × (p < k.points) × ListOf (Parent v (TrulyUnder v k p) a) xs

@@ -1,5 +1,5 @@
 -- What puts and draws do to the set, one after the other.
-use Rattle.std.proofs.Common.{◌≡◌, ℕ, ◌<◌, List, [], ◌∷◌, ◌++◌, Ok, Err, Result, sym, refl, ap, ◌∙◌, ◌⊎◌, inl, inr, ⊎_elim, append_assoc, append-nil, false, true, arith}
+use Rattle.std.proofs.Common.{◌≡◌, ℕ, ◌<◌, List, [], ◌∷◌, ◌++◌, Some, None, Ok, Err, Option, Result, sym, refl, ap, ◌∙◌, subst, ◌⊎◌, inl, inr, ⊎_elim, append_assoc, append-nil, false, true, arith}
 use mathlib.Core.List.Memᴰ
 use mathlib.Core.List.{Memᴰ}
 use Rattle.std.proofs.lemmas.Bool.{cases_eq, cases_Bool, cond-true, cond-false}
@@ -9,7 +9,7 @@ use Rattle.piles.specs.declared.ring.Ring.{Ring}
 use Rattle.piles.specs.declared.marks.Marks.{Marks}
 use Rattle.piles.specs.Lists.{RestKept}
 use Rattle.piles.specs.Tables.{marks_shape}
-use Rattle.piles.specs.Shapes.{Shape, PutIn, DrawnOut, PutBy, Act, put, drew, Does, Became, Acted, nothing, and_then, puts}
+use Rattle.piles.specs.Shapes.{Shape, PutIn, DrawnOut, PutBy, DrewBy, Act, put, drew, Does, Became, Acted, nothing, and_then, puts}
 use Rattle.piles.specs.Chains.{has}
 use Rattle.piles.specs.Orders.{order, ring_shape, queued, behind, order_after}
 
@@ -30,6 +30,15 @@ module _ {Y : Type 0} (S : Shape Y) where
 
   pub acted_then : {p q r : Y} → Acted S p q → Acted S q r → Acted S p r
   acted_then f g = (g.0 ++ f.0, became_then f.1 g.1)
+
+  -- and a put or a draw after them, however it was answered
+  pub acted_put : (x : ℕ) {p q r : Y} → Acted S p q → (o : Result (Unit {0}) Rejection) → PutBy S x q r o → Acted S p r
+  acted_put x a (Ok u) b = (put x ∷ a.0, and_then a.1 b)
+  acted_put x {p = p} a (Err e) b = subst (λ u. Acted S p u) (sym b.2) a
+
+  pub acted_draw : {p q r : Y} → Acted S p q → (o : Option ℕ) → DrewBy S q r o → Acted S p r
+  acted_draw a (Some x) b = (drew x ∷ a.0, and_then a.1 b)
+  acted_draw {p = p} a None b = subst (λ u. Acted S p u) (sym b.2) a
 
 -- the order of a ring
 pub ring_became : {es : List Act} {p q : Ring} → Became ring_shape es p q → order q ≡ order_after es (order p)

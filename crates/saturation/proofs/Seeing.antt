@@ -9,6 +9,7 @@ use Rattle.saturation.specs.Boards.{Moment}
 use Rattle.saturation.specs.Effects.{Made, Took, Returned, Rechecked}
 use Rattle.saturation.specs.Histories.{Event, took, returned, worked, lowered, rechecked, other, Effect, Leads, nothing, and_then, History, Led}
 use Rattle.saturation.specs.Runs.{Exhausts, Runs}
+use Rattle.saturation.specs.AnyOrder.{CallsSeen}
 
 module _ {Y Z : Type 0} {S : Shape Y} {T : Shape Z} {f : Y → Z} (F : Follows S T f) where
   -- a moment, with the pile that follows
@@ -19,7 +20,7 @@ module _ {Y Z : Type 0} {S : Shape Y} {T : Shape Z} {f : Y → Z} (F : Follows S
   puts_along t = record { numbers = t.numbers; distinct = t.distinct; each = t.each; every = t.every; became = became_along F t.became }
 
   module _ (v : Vocabulary) (k : Kind) where
-    made_along : {p : Y} {m : Moment Y} → Made v k S p m → Made v k T (f p) (along m)
+    pub made_along : {p : Y} {m : Moment Y} → Made v k S p m → Made v k T (f p) (along m)
     made_along {p} t = record {
       goes = t.goes;
       started = t.started;
@@ -49,7 +50,7 @@ module _ {Y Z : Type 0} {S : Shape Y} {T : Shape Z} {f : Y → Z} (F : Follows S
     effect_along (rechecked c) a b t = rechecked_along c a b t
     effect_along other a b t = record { board = t.board; pile = λ x. rw (F.numbers b.pile) (rw (F.numbers a.pile) (t.pile x)) }
 
-    leads_along : {es : List Event} {a b : Moment Y} → Leads v k S es a b → Leads v k T es (along a) (along b)
+    pub leads_along : {es : List Event} {a b : Moment Y} → Leads v k S es a b → Leads v k T es (along a) (along b)
     leads_along nothing = nothing
     leads_along (and_then {e = e} {b = b} {c = c} l t) = and_then (leads_along l) (effect_along e b c t)
 
@@ -65,6 +66,15 @@ module _ {Y Z : Type 0} {S : Shape Y} {T : Shape Z} {f : Y → Z} (F : Follows S
     runs_along {a = a} (Runs.dry q n m) = Runs.dry q (F.front a.pile ∙ n) (rw (F.numbers a.pile) m)
     runs_along {a = a} (Runs.turn {c = c} {b = b} {e = e} {f = g} q l t x w p r y) =
         Runs.turn q l (took_along c a b t) (exhausts_along x) w (ap f p) (rechecked_along c e g r) (runs_along y)
+
+pub calls_seen : {Y : Type 0} (S : Shape Y) → CallsSeen S
+calls_seen S =
+    let F = seen_follows S in
+    record {
+      made = λ v k p m t. made_along F v k t;
+      led = λ v k es a b t. leads_along F v k t;
+      ran = λ v k budget steps o es a b t. runs_along F v k t;
+    }
 
 pub history_seen : {Y : Type 0} {v : Vocabulary} {k : Kind} {S : Shape Y} {es : List Event} {m : Moment Y} → History v k S es m →
     History v k any_pile es (along (seen_follows S) m)

@@ -3,7 +3,7 @@ use Rattle.std.specs.Prelude.{◌≡◌, ℕ, ◌+◌, ◌*◌, ◌<◌, ◌≤�
 use mathlib.Core.List.{Memᴰ}
 use Rattle.grades.specs.Kinds.{Kind, Lawful, on_at}
 use Rattle.piles.specs.Sets.{Empty}
-use Rattle.piles.specs.Shapes.{Shape, Distinct}
+use Rattle.piles.specs.Shapes.{Shape, Distinct, Seen, seen, any_pile}
 use Rattle.terms.specs.Vocabularies.{Vocabulary, WellFormed}
 use Rattle.reasoning.specs.declared.Fact.{Fact}
 use Rattle.reasoning.specs.declared.Job.{Job}
@@ -66,6 +66,17 @@ AnyOrder {Y} {Z} S T = (k : Kind) → Lawful k → (v : Vocabulary) → WellForm
 -- whatever the pile, a history over it is one of calls that led to its board
 abbrev pub HistoriesSeen : {Y : Type 0} → Shape Y → Type 0
 HistoriesSeen {Y} S = (v : Vocabulary) (k : Kind) (es : List Event) (m : Moment Y) → History v k S es m → Led v k m.board
+
+-- a moment, with what is seen of its pile
+abbrev pub seen_at : {Y : Type 0} → Shape Y → Moment Y → Moment Seen
+seen_at S m = record { board = m.board; pile = seen S m.pile }
+
+-- whatever the pile, a making, calls and a run over it are the same over what is seen of it
+pub record CallsSeen {Y : Type 0} (S : Shape Y) : Type 0 where
+  pub made : (v : Vocabulary) (k : Kind) (p : Y) (m : Moment Y) → Made v k S p m → Made v k any_pile (seen S p) (seen_at S m)
+  pub led : (v : Vocabulary) (k : Kind) (es : List Event) (a b : Moment Y) → Leads v k S es a b → Leads v k any_pile es (seen_at S a) (seen_at S b)
+  pub ran : (v : Vocabulary) (k : Kind) (budget steps : ℕ) (o : Outcome) (es : List Event) (a b : Moment Y) → Runs v k S budget o steps es a b →
+      Runs v k any_pile budget o steps es (seen_at S a) (seen_at S b)
 
 -- a run is a chain of the effects of the calls inside it
 abbrev pub RunsLead : {Y : Type 0} → Shape Y → Type 0

@@ -4,7 +4,7 @@
 
 ghost use Rattle.piles.specs.Shapes.{any_pile};
 ghost use Rattle.saturation.specs.Answers.{QuietAnswersTrue};
-ghost use Rattle.saturation.specs.AnyOrder.{AnyOrder, FreshRunFinishes, HistoriesSeen, QueuedWaits, RunsFinish, RunsLead};
+ghost use Rattle.saturation.specs.AnyOrder.{AnyOrder, CallsSeen, FreshRunFinishes, HistoriesSeen, QueuedWaits, RunsFinish, RunsLead};
 
 use piles::pile::Pile;
 
@@ -38,33 +38,43 @@ pub fn any_order_gives_one_answer<P: Pile, Q: Pile>()
     ensures seen { AnyOrder any_pile any_pile }
 {}
 
-/// Every list of calls over a pile is one over what is seen of the pile, of which questions speak, since they name no pile.
+/// Every list of calls over a pile is one over what is seen of the pile, of which questions speak, since they name no pile; and so is each
+/// part of it, and a run. So calls over one pile and then over another that holds the same numbers are one list over what is seen of both.
 pub fn histories_are_seen<P: Pile>()
-    ensures { HistoriesSeen P.shape }
+    ensures histories { HistoriesSeen P.shape }
+    ensures calls { CallsSeen P.shape }
 {}
 
-/// Whatever was called, in whatever order: under, mates and parents on a board on which no job waits are those of all finite models.
+/// Whatever was called, in whatever order: under, mates and parents on a board on which no job waits are those of all finite models. That
+/// holds too where no more is known of a pile than every pile shows.
 pub fn quiet_answers_are_true<P: Pile>()
-    ensures { QuietAnswersTrue P.shape }
+    ensures piles { QuietAnswersTrue P.shape }
+    ensures seen { QuietAnswersTrue any_pile }
 {}
 
-/// A run is a chain of the effects of the takes, steps, lowerings and rechecks inside it.
+/// A run is a chain of the effects of the takes, steps, lowerings and rechecks inside it. That holds too where no more is known of a pile
+/// than every pile shows.
 pub fn runs_are_chains_of_effects<P: Pile>()
-    ensures { RunsLead P.shape }
+    ensures piles { RunsLead P.shape }
+    ensures seen { RunsLead any_pile }
 {}
 
-/// A fresh board and one run with a budget of at least the possible pairs of job and point end as finished.
+/// A fresh board and one run with a budget of at least the possible pairs of job and point end as finished. That holds too where no more is
+/// known of a pile than every pile shows.
 pub fn fresh_runs_finish<P: Pile>()
-    ensures { FreshRunFinishes P.shape }
+    ensures piles { FreshRunFinishes P.shape }
+    ensures seen { FreshRunFinishes any_pile }
 {}
 
-/// After any list of calls, no queued concept is quiet.
+/// After any list of calls, no queued concept is quiet. That holds too where no more is known of a pile than every pile shows.
 pub fn queued_concepts_have_work<P: Pile>()
-    ensures { QueuedWaits P.shape }
+    ensures piles { QueuedWaits P.shape }
+    ensures seen { QueuedWaits any_pile }
 {}
 
 /// A fresh board is at rest, and whatever led to a board at rest, one run with a budget of at least the possible pairs of job and point ends
-/// as finished, with every concept idle and nothing in the pile.
+/// as finished, with every concept idle and nothing in the pile. That holds too where no more is known of a pile than every pile shows.
 pub fn runs_finish<P: Pile>()
-    ensures { RunsFinish P.shape }
+    ensures piles { RunsFinish P.shape }
+    ensures seen { RunsFinish any_pile }
 {}

@@ -102,19 +102,30 @@ fn heal<K: GradeKind, P: Pile>(session: &mut Session<K, P>, kind: K) -> Result<(
     Ok(())
 }
 
-/// Runs to the end. Where a recheck went astray, a job may be out of sight, and is brought back first.
+/// How a run without a limit ends; one that is rejected has left a job.
+fn run_all<K: GradeKind, P: Pile>(session: &mut Session<K, P>) -> Outcome {
+    session
+        .board
+        .run(session.terms, session.pile, u64::MAX)
+        .map_or(Outcome::Left, |ran| ran.outcome)
+}
+
+/// Runs to the end. Where a recheck went astray, a job may be out of sight, and is brought back first: only a run that ends as left says so.
 fn finish<K: GradeKind, P: Pile>(
     session: &mut Session<K, P>,
     kind: K,
     course: &mut Course,
 ) -> Result<(), Trouble<Slots>> {
-    let mut answer = session.run();
-    if answer.is_err() && course.astray {
+    let mut outcome = run_all(session);
+    if outcome == Outcome::Left && course.astray {
         count(&mut course.tally.healed);
         heal(session, kind)?;
-        answer = session.run();
+        outcome = run_all(session);
     }
-    answer.map_err(|_| Trouble::Differs("a run did not finish"))
+    match outcome {
+        Outcome::Finished => Ok(()),
+        Outcome::Spent | Outcome::Left => Err(Trouble::Differs("a run did not finish")),
+    }
 }
 
 impl<'t, K: GradeKind> Trial<'t, K> {

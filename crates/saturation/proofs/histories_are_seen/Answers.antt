@@ -1,5 +1,5 @@
-use Rattle.saturation.proofs.Seeing.{led}
+use Rattle.saturation.proofs.Seeing.{calls_seen, led}
 use Rattle.saturation.proofs.histories_are_seen.Goals as goal
 
 pub returns : goal.returns
-returns g c = λ v k es m h. led h
+returns g c = record { histories = λ v k es m h. led h; calls = calls_seen g.P.Pile.shape }
