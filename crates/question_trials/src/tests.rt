@@ -1,5 +1,6 @@
 //! Rejections of questions.
-use board::board::{ClosedBoard, OpenBoard};
+use board::board::OpenBoard;
+use board::closed::ClosedBoard;
 use grades::kind::GradeKind;
 use grades::plain::Plain;
 use grades::releases::Releases;
